@@ -25,5 +25,5 @@ finish
 callgrind_annotate --inclusive=yes --threshold=100 "$work/counted" | awk '
     { count = $1; gsub(",", "", count) }
     /PROGRAM TOTALS/ { whole = count }
-    /ipam_kept::feed::(prepare|push) / { ring += count }
+    /ipam_shared::feed::(prepare|push) / { ring += count }
     END { printf "%d instructions, %d of them the ring: %.3f in 100\n", whole, ring, 100 * ring / whole }'

@@ -6,8 +6,8 @@ top=$(cd "$(dirname "$0")/.." && pwd)
 turns=${1:-1000000}
 program=$("$top/bench/built.sh" ipam_tests)
 echo "kept, alone:"
-printf '== ipam_shared_tests\n%s\n%s\n' "kept 0" "take $turns" | "$program"
+printf '== shared\n%s\n%s\n' "kept 0" "take $turns" | "$program"
 for passes in 1 4 16; do
     echo "shared, $passes passes:"
-    printf '== ipam_shared_tests\n%s\n' "turns $((passes - 1)) $((turns / passes))" | "$program"
+    printf '== shared\n%s\n' "turns $((passes - 1)) $((turns / passes))" | "$program"
 done

@@ -1,10 +1,12 @@
-ghost use Rattle.std.specs.Prelude.{◌≡◌, ◌++◌, [], ◌∷◌, codes, IfOk, OnOk, OnErr, string_bytes};
+ghost use Rattle.std.specs.Prelude.{◌≡◌, ◌++◌, IfOk, OnOk, OnErr, string_bytes};
+ghost use Rattle.serde_json.specs.Data.{object, string, no_members, put};
 ghost use Rattle.serde_json.specs.View.{view};
-ghost use Rattle.ipam_answer_text.specs.Answers.{moment_data, answer_data, answer_text, collected_data, no_pool_data, taken_data, not_affine_data, not_recorded_data, refused_data, again_data};
+ghost use Rattle.ipam_json.specs.Built.{tagged, whole_data};
+ghost use Rattle.ipam_answer_text.specs.Answers.{moment_data, answer_data, answer_text, collected_data, not_affine_data, not_recorded_data, again_data};
 
 use crate::parts::{
-    address_string, cidr_string, given_this_value, givens_value, items_value, scan_value,
-    scans_value,
+    added_this_value, added_value, address_string, cidr_string, items_value, ready_value,
+    scan_value,
 };
 use ipam_addr::{Addr, Cidr};
 use ipam_json::{tagged, two_members};
@@ -35,12 +37,12 @@ pub fn answer_value(alloc: Global, answer: &Answer) -> Result<Value, AllocError>
     ensures { IfOk result (λ v. view v ≡ answer_data answer.now) }
 {
     match answer {
-        Answer::Added(givens) => tagged(alloc, "added", givens_value(alloc, givens.as_slice())?),
-        Answer::AddedThis(given) => tagged(alloc, "addedThis", given_this_value(alloc, given)?),
+        Answer::Added(givens) => added_value(alloc, givens.as_slice()),
+        Answer::AddedThis(given) => added_this_value(alloc, given),
         Answer::Exhausted(scan) => tagged(alloc, "exhausted", scan_value(alloc, scan)?),
-        Answer::NoPool(name, moment) => no_pool(alloc, name, *moment),
+        Answer::NoPool(name, moment) => with_text(alloc, "noPool", "name", name, "p", *moment),
         Answer::NotInPool(moment) => moment_of(alloc, "notInPool", "p", *moment),
-        Answer::Taken(holder, moment) => taken(alloc, holder, *moment),
+        Answer::Taken(holder, moment) => with_text(alloc, "taken", "holder", holder, "b", *moment),
         Answer::NotAffine(cidr, moment) => not_affine(alloc, *cidr, *moment),
         Answer::Deleted(moment) => moment_of(alloc, "deleted", "k", *moment),
         Answer::Checked => Value::try_from_str(alloc, "checked"),
@@ -49,13 +51,15 @@ pub fn answer_value(alloc: Global, answer: &Answer) -> Result<Value, AllocError>
         Answer::NoAffinity(moment) => moment_of(alloc, "noAffinity", "moment", *moment),
         Answer::Collected(collected) => collected_value(alloc, collected),
         Answer::Done(revision) => moment_of(alloc, "done", "revision", *revision),
-        Answer::Refused(number, name) => refused(alloc, *number, name),
+        Answer::Refused(number, name) => {
+            with_text(alloc, "refused", "name", name, "number", u64::from(*number))
+        }
         Answer::Again(lost, claims) => again(alloc, *lost, *claims),
         Answer::Full => Value::try_from_str(alloc, "full"),
         Answer::CountFull(moment) => moment_of(alloc, "countFull", "moment", *moment),
         Answer::Spent => Value::try_from_str(alloc, "spent"),
         Answer::Fault => Value::try_from_str(alloc, "fault"),
-        Answer::Ready(scans) => tagged(alloc, "ready", scans_value(alloc, scans.as_slice())?),
+        Answer::Ready(scans) => ready_value(alloc, scans.as_slice()),
     }
 }
 
@@ -67,20 +71,21 @@ fn moment_of(alloc: Global, name: &str, member: &str, moment: u64) -> Result<Val
     tagged(alloc, name, inner)
 }
 
-fn no_pool(alloc: Global, name: &Text, moment: u64) -> Result<Value, AllocError>
-    ensures { IfOk result (λ v. view v ≡ no_pool_data name.now moment) }
+/// The object of this name that holds a text and a number.
+fn with_text(
+    alloc: Global,
+    tag: &str,
+    name: &str,
+    text: &Text,
+    counted: &str,
+    number: u64,
+) -> Result<Value, AllocError>
+    ensures { IfOk result (λ v. view v ≡ tagged tag.now (object
+        (put counted.now (whole_data number) (put name.now (string text.now) no_members)))) }
 {
-    let name = Value::try_from_str(alloc, name.as_str())?;
-    let inner = two_members(alloc, "name", name, "p", Value::from(moment))?;
-    tagged(alloc, "noPool", inner)
-}
-
-fn taken(alloc: Global, holder: &Text, moment: u64) -> Result<Value, AllocError>
-    ensures { IfOk result (λ v. view v ≡ taken_data holder.now moment) }
-{
-    let holder = Value::try_from_str(alloc, holder.as_str())?;
-    let inner = two_members(alloc, "b", Value::from(moment), "holder", holder)?;
-    tagged(alloc, "taken", inner)
+    let text = Value::try_from_str(alloc, text.as_str())?;
+    let inner = two_members(alloc, name, text, counted, Value::from(number))?;
+    tagged(alloc, tag, inner)
 }
 
 fn not_affine(alloc: Global, cidr: Cidr, moment: u64) -> Result<Value, AllocError>
@@ -108,14 +113,6 @@ fn collected_value(alloc: Global, collected: &Collected) -> Result<Value, AllocE
     let items = items_value(alloc, collected.items.as_slice())?;
     put(&mut members, alloc, "items", items)?;
     tagged(alloc, "collected", Value::Object(members))
-}
-
-fn refused(alloc: Global, number: u8, name: &Text) -> Result<Value, AllocError>
-    ensures { IfOk result (λ v. view v ≡ refused_data number name.now) }
-{
-    let name = Value::try_from_str(alloc, name.as_str())?;
-    let inner = two_members(alloc, "name", name, "number", Value::from(number))?;
-    tagged(alloc, "refused", inner)
 }
 
 fn again(alloc: Global, lost: u32, claims: u32) -> Result<Value, AllocError>

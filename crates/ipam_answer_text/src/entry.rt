@@ -1,10 +1,10 @@
 //! The lines of a journal.
 ghost use Rattle.std.specs.Prelude.{◌≡◌, ◌++◌, decimal, IfOk, OnOk, OnErr, string_bytes};
 ghost use Rattle.ipam_records.specs.KeyText.{key_bytes};
-ghost use Rattle.ipam_answer_text.specs.Entries.{numbered, spaced, call_text, kind_text, fate_text, told_text, written_text, ending_text, at_text, asked_text, heard_text, began_line, fed_line, stopped_line, called_line, entry_line};
+ghost use Rattle.ipam_answer_text.specs.Entries.{numbered, spaced, call_text, kind_text, fate_text, told_text, written_text, at_text, asked_text, heard_text, began_line, fed_line, called_line, entry_line};
 
 use crate::answer::push_answer;
-use ipam_model::{Answer, CallName, Called, Entry, Fate, Request, Told};
+use ipam_model::{CallName, Called, Entry, Fate, Request, Told};
 use ipam_records::{Key, Kind, Record, key_text, to_text};
 use ipam_request_text::{push_live, push_request};
 use ipam_text::Text;
@@ -19,18 +19,12 @@ pub fn push_entry(alloc: Global, out: &mut String, entry: &Entry) -> Result<(), 
     ensures ok { OnOk result (string_bytes out.new ≡ string_bytes out.old ++ entry_line entry.now) }
     ensures err { OnErr result (string_bytes out.new ≡ string_bytes out.old) }
 {
-    let line = line_of(alloc, entry)?;
+    let mut line = String::with_capacity(alloc, ROOM)?;
+    push_line(alloc, &mut line, entry)?;
     out.push_str(line.as_str())
 }
 
-fn line_of(alloc: Global, entry: &Entry) -> Result<String, AllocError>
-    ensures { IfOk result (λ s. string_bytes s ≡ entry_line entry.now) }
-{
-    let mut line = String::with_capacity(alloc, ROOM)?;
-    push_line(alloc, &mut line, entry)?;
-    Ok(line)
-}
-
+#[tactic(auto, unfolding(crate::specs::Entries::stopped_line))]
 fn push_line(alloc: Global, out: &mut String, entry: &Entry) -> Result<(), AllocError>
     ensures { OnOk result (string_bytes out.new ≡ string_bytes out.old ++ entry_line entry.now) }
 {
@@ -38,7 +32,10 @@ fn push_line(alloc: Global, out: &mut String, entry: &Entry) -> Result<(), Alloc
         Entry::Began(slot, request) => push_began(alloc, out, *slot, request),
         Entry::Fed(slot, at, live) => push_fed(alloc, out, *slot, *at, live.as_slice()),
         Entry::Called(called) => push_called(alloc, out, called),
-        Entry::Stopped(slot) => push_stopped(out, *slot),
+        Entry::Stopped(slot) => {
+            push_number(out, u64::from(*slot))?;
+            out.push_str(" stopped\n")
+        }
     }
 }
 
@@ -74,14 +71,6 @@ fn push_fed(
     out.push_str("\n")
 }
 
-#[tactic(auto, unfolding(crate::specs::Entries::stopped_line))]
-fn push_stopped(out: &mut String, slot: u8) -> Result<(), AllocError>
-    ensures { OnOk result (string_bytes out.new ≡ string_bytes out.old ++ stopped_line slot) }
-{
-    push_number(out, u64::from(slot))?;
-    out.push_str(" stopped\n")
-}
-
 #[tactic(auto, unfolding(crate::specs::Entries::called_line))]
 fn push_called(alloc: Global, out: &mut String, called: &Called) -> Result<(), AllocError>
     ensures { OnOk result (string_bytes out.new ≡ string_bytes out.old ++ called_line called.now) }
@@ -113,7 +102,10 @@ fn push_heard(alloc: Global, out: &mut String, called: &Called) -> Result<(), Al
     out.push_str(" ")?;
     push_written(alloc, out, &called.written)?;
     out.push_str(" ")?;
-    push_ending(alloc, out, &called.answer)
+    match &called.answer {
+        Some(answer) => push_answer(alloc, out, answer),
+        None => out.push_str("-"),
+    }
 }
 
 fn push_call(alloc: Global, out: &mut String, call: &CallName) -> Result<(), AllocError>
@@ -220,15 +212,6 @@ fn push_written(alloc: Global, out: &mut String, written: &Option<Record>) -> Re
             let body = to_text(alloc, record)?;
             out.push_str(body.as_str())
         }
-        None => out.push_str("-"),
-    }
-}
-
-fn push_ending(alloc: Global, out: &mut String, answer: &Option<Answer>) -> Result<(), AllocError>
-    ensures { OnOk result (string_bytes out.new ≡ string_bytes out.old ++ ending_text answer.now) }
-{
-    match answer {
-        Some(answer) => push_answer(alloc, out, answer),
         None => out.push_str("-"),
     }
 }

@@ -1,5 +1,5 @@
 /// Why a line of a script is not read.
-#[derive(Clone, Copy, Debug, PartialEq, Eq)]
+#[derive(Clone, Copy, Debug)]
 pub enum LineFault {
     /// No line of a script has this form.
     Unreadable,

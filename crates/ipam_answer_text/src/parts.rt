@@ -2,11 +2,12 @@
 ghost use Rattle.std.specs.Prelude.{◌≡◌, codes, map, IfOk, OnOk, string_bytes};
 ghost use Rattle.serde_json.specs.Data.{string, no_members, put};
 ghost use Rattle.serde_json.specs.View.{view, members_view};
-ghost use Rattle.ipam_json.specs.Built.{array_of, whole_data};
+ghost use Rattle.ipam_json.specs.Built.{array_of, tagged, whole_data};
 ghost use Rattle.ipam_addr.specs.Text.{address_text, cidr_text_of};
 ghost use Rattle.ipam_answer_text.specs.Answers.{scan_data, given_data, given_this_data, item_data, family_number};
 
 use ipam_addr::{Addr, Cidr, Family, push_addr, push_cidr};
+use ipam_json::tagged;
 use ipam_model::{Given, GivenThis, Item, Scan};
 use serde_json::{Map, Value, put};
 use std::alloc::{AllocError, Global};
@@ -99,13 +100,13 @@ fn given_value(alloc: Global, given: &Given) -> Result<Value, AllocError>
 }
 
 #[tactic(auto, unfolding(crate::specs::Answers::given_this_data))]
-pub(crate) fn given_this_value(alloc: Global, given: &GivenThis) -> Result<Value, AllocError>
-    ensures { IfOk result (λ v. view v ≡ given_this_data given.now) }
+pub(crate) fn added_this_value(alloc: Global, given: &GivenThis) -> Result<Value, AllocError>
+    ensures { IfOk result (λ v. view v ≡ tagged (codes "addedThis") (given_this_data given.now)) }
 {
     let mut members = three_moments(alloc, given.b, given.c, given.p)?;
     put_address(alloc, &mut members, given.address)?;
     put(&mut members, alloc, "w", Value::from(given.w))?;
-    Ok(Value::Object(members))
+    tagged(alloc, "addedThis", Value::Object(members))
 }
 
 #[tactic(auto, unfolding(crate::specs::Answers::item_data))]
@@ -121,24 +122,26 @@ fn item_value(alloc: Global, item: &Item) -> Result<Value, AllocError>
     Ok(Value::Object(members))
 }
 
-pub(crate) fn scans_value(alloc: Global, scans: &[Scan]) -> Result<Value, AllocError>
-    ensures { IfOk result (λ v. view v ≡ array_of (map scan_data scans.now)) }
+pub(crate) fn ready_value(alloc: Global, scans: &[Scan]) -> Result<Value, AllocError>
+    ensures { IfOk result
+        (λ v. view v ≡ tagged (codes "ready") (array_of (map scan_data scans.now))) }
 {
     let mut list = Vec::new(alloc);
     for scan in scans {
         list.push(scan_value(alloc, scan)?)?;
     }
-    Ok(Value::Array(list))
+    tagged(alloc, "ready", Value::Array(list))
 }
 
-pub(crate) fn givens_value(alloc: Global, givens: &[Given]) -> Result<Value, AllocError>
-    ensures { IfOk result (λ v. view v ≡ array_of (map given_data givens.now)) }
+pub(crate) fn added_value(alloc: Global, givens: &[Given]) -> Result<Value, AllocError>
+    ensures { IfOk result
+        (λ v. view v ≡ tagged (codes "added") (array_of (map given_data givens.now))) }
 {
     let mut list = Vec::new(alloc);
     for given in givens {
         list.push(given_value(alloc, given)?)?;
     }
-    Ok(Value::Array(list))
+    tagged(alloc, "added", Value::Array(list))
 }
 
 pub(crate) fn items_value(alloc: Global, items: &[Item]) -> Result<Value, AllocError>

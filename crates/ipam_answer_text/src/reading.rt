@@ -1,13 +1,11 @@
 //! Lines are read.
 ghost use Rattle.std.specs.Prelude.{◌≡◌, Err, Some, None, IfOk, codes};
 ghost use Rattle.ipam_request_text.specs.Live.{live_reading};
-ghost use Rattle.ipam_request_text.specs.Reading.{request_reading};
-ghost use Rattle.ipam_answer_text.specs.Reading.{row_line_of, row_in, begin_in, one_turn, turns_said, turn_parts, turn_in, timed_feed, feed_listed, feed_in, named_call, named_line, lone_word, line_parts, text_reading, line_reading};
+ghost use Rattle.ipam_answer_text.specs.Reading.{row_in, begin_in, turn_in, timed_feed, feed_in, named_call, named_line, text_reading, line_reading};
 
 use crate::fault::LineFault;
 use crate::line::Line;
 use crate::words::{number_of, slot_of, split_word, turns_of};
-use ipam_model::Request;
 use ipam_records::Row;
 use ipam_request_text::{AskFault, read_live, read_request_text};
 use ipam_text::{Seq, Text};
@@ -46,17 +44,8 @@ fn line_in(alloc: Global, text: &str) -> Result<Option<Line>, AllocError>
 {
     match split_word(text) {
         Some((word, rest)) => named_line(alloc, word, rest),
-        None => Ok(lone_word(text)),
-    }
-}
-
-fn lone_word(word: &str) -> Option<Line>
-    ensures { result ≡ lone_word word.now }
-{
-    if word == "restart" {
-        Some(Line::Restart)
-    } else {
-        None
+        None if text == "restart" => Ok(Some(Line::Restart)),
+        None => Ok(None),
     }
 }
 
@@ -112,13 +101,6 @@ fn row_in(alloc: Global, text: &str) -> Result<Option<Line>, AllocError>
     let Some((key, body)) = split_word(rest) else {
         return Ok(None);
     };
-    row_of(alloc, revision, key, body)
-}
-
-/// The row, unless its key is no word.
-fn row_of(alloc: Global, revision: u64, key: &str, body: &str) -> Result<Option<Line>, AllocError>
-    ensures { IfOk result (λ found. found ≡ row_line_of revision key.now body.now) }
-{
     if key.is_empty() {
         return Ok(None);
     }
@@ -141,17 +123,8 @@ fn begin_in(alloc: Global, text: &str) -> Result<Option<Line>, AllocError>
     let Some(slot) = slot_of(word) else {
         return Ok(None);
     };
-    match request_of(alloc, rest)? {
-        Some(request) => Ok(Some(Line::Begin(slot, request))),
-        None => Ok(None),
-    }
-}
-
-fn request_of(alloc: Global, text: &str) -> Result<Option<Request>, AllocError>
-    ensures { IfOk result (λ found. found ≡ request_reading text.now) }
-{
-    match read_request_text(alloc, text) {
-        Ok(request) => Ok(Some(request)),
+    match read_request_text(alloc, rest) {
+        Ok(request) => Ok(Some(Line::Begin(slot, request))),
         Err(AskFault::Unreadable) => Ok(None),
         Err(AskFault::Memory) => Err(AllocError),
     }
@@ -167,25 +140,13 @@ fn live_of(alloc: Global, text: &str) -> Result<Option<Seq<Text>>, AllocError>
     }
 }
 
+#[tactic(auto, unfolding(crate::specs::Reading::turns_said))]
 fn turn_in(text: &str) -> Option<Line>
     ensures { result ≡ turn_in text.now }
 {
-    match split_word(text) {
-        Some((word, turns)) => turns_said(word, turns),
-        None => one_turn(text),
-    }
-}
-
-fn one_turn(text: &str) -> Option<Line>
-    ensures { result ≡ one_turn text.now }
-{
-    Some(Line::Turn(slot_of(text)?, 1))
-}
-
-#[tactic(auto, unfolding(crate::specs::Reading::turns_said))]
-fn turns_said(word: &str, turns: &str) -> Option<Line>
-    ensures { result ≡ turns_said word.now turns.now }
-{
+    let Some((word, turns)) = split_word(text) else {
+        return Some(Line::Turn(slot_of(text)?, 1));
+    };
     let slot = slot_of(word)?;
     let count = turns_of(turns)?;
     Some(Line::Turn(slot, count))

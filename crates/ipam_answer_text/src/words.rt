@@ -1,6 +1,6 @@
 //! The words and numbers of a line.
 ghost use Rattle.std.specs.Prelude.{◌≡◌, option_map};
-ghost use Rattle.ipam_answer_text.specs.Words.{split_word, number_of, slot_number_in, slot_named, turns_in, turns_of};
+ghost use Rattle.ipam_answer_text.specs.Words.{split_word, number_of, slot_named, turns_of};
 
 use ipam_json::is_index;
 use ipam_model::SLOTS;
@@ -27,12 +27,6 @@ pub(crate) fn slot_of(word: &str) -> Option<u8>
     ensures { result ≡ slot_named word.now }
 {
     let number = number_of(word)?;
-    slot_in(number)
-}
-
-fn slot_in(number: u64) -> Option<u8>
-    ensures { result ≡ slot_number_in number }
-{
     if number < SLOTS as u64 {
         Some(number as u8)
     } else {
@@ -45,12 +39,6 @@ pub(crate) fn turns_of(word: &str) -> Option<u32>
     ensures { result ≡ turns_of word.now }
 {
     let number = number_of(word)?;
-    turns_in(number)
-}
-
-fn turns_in(number: u64) -> Option<u32>
-    ensures { result ≡ turns_in number }
-{
     if 1 <= number && number <= 100_000 {
         Some(number as u32)
     } else {

@@ -8,3 +8,5 @@ pub mod ScanningLemmas
 pub mod ProbeLemmas
 pub mod QueueLemmas
 pub mod PickedLemmas
+pub mod ServingLemmas
+pub mod AddLemmas

@@ -8,3 +8,6 @@ pub mod AddThis
 pub mod Scanning
 pub mod Probe
 pub mod Picked
+pub mod Grant
+pub mod Serving
+pub mod Adding

@@ -11,3 +11,4 @@ pub mod RowTexts
 pub mod AbsentLemmas
 pub mod TellingLemmas
 pub mod StillLemmas
+pub mod FitsLemmas

@@ -7,8 +7,8 @@ use Rattle.ipam_model.specs.declared.request.CollectRequest.{CollectRequest}
 use Rattle.ipam_model.specs.Told.{of_collect}
 use Rattle.ipam_model.specs.Affinities.{release}
 use Rattle.ipam_parts.proofs.FreeingAsks.{asks_freeing, freeing_asks}
-use Rattle.ipam_add.proofs.AddLemmas.{stage_asks as stage_asks_add}
-use Rattle.ipam_add.specs.Adding.{add_rest}
+use Rattle.ipam_assign.proofs.AddLemmas.{stage_asks as stage_asks_add}
+use Rattle.ipam_assign.specs.Adding.{add_rest}
 use Rattle.ipam_release.specs.declared.admin.Stage.{Stage as AdminStage}
 use Rattle.ipam_release.specs.declared.admin.Stage.TheVariants as admin
 use Rattle.ipam_release.specs.Admin.{admin_rest, admin_at}

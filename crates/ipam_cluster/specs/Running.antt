@@ -6,7 +6,7 @@ use Rattle.ipam_model.specs.declared.request.Request.{Request}
 use Rattle.ipam_model.specs.declared.request.Request.TheVariants as request
 use Rattle.ipam_model.specs.Requests.{told_as}
 use Rattle.ipam_model.specs.Told.{of_add, of_add_this, of_del, of_check, of_release, of_collect, of_admin, of_probe}
-use Rattle.ipam_add.specs.Adding.{add_rest, add_leaves}
+use Rattle.ipam_assign.specs.Adding.{add_rest, add_leaves}
 use Rattle.ipam_release.specs.Admin.{admin_rest, admin_leaves}
 use Rattle.ipam_assign.specs.AddThis.{this_rest, this_leaves}
 use Rattle.ipam_assign.specs.Probe.{probe_rest, probe_leaves}

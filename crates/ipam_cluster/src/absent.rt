@@ -2,9 +2,7 @@ ghost use Rattle.std.specs.Prelude.{◌≡◌, ◌<◌, IfOk};
 ghost use Rattle.ipam_addr.specs.Width.{cidr_size};
 ghost use Rattle.ipam_block.specs.declared.limits.TheConstants.{ADDRESSES_MAX};
 ghost use Rattle.ipam_model.specs.Affinities.{release};
-ghost use Rattle.ipam_cluster.specs.Absent.{absent_rest, absent_leaves};
 
-use crate::large::LargeCidr;
 use ipam_addr::Cidr;
 use ipam_model::ReleaseAnswer;
 use ipam_records::{Call, Heard, Key, Procedure};
@@ -15,7 +13,8 @@ use std::alloc::{AllocError, Global};
 /// one read decides.
 pub struct AbsentRelease {
     node: Text,
-    cidr: LargeCidr,
+    cidr: Cidr,
+    ghost large: { ADDRESSES_MAX < cidr_size cidr },
 }
 
 impl Drop for AbsentRelease {
@@ -31,20 +30,21 @@ pub struct AbsentTurned {
 }
 
 impl AbsentRelease {
+    ghost use Rattle.ipam_cluster.specs.Absent.{absent_rest};
+
     /// The release of the node's affinity to this CIDR.
     pub fn new(alloc: Global, node: &str, cidr: Cidr) -> Result<AbsentRelease, AllocError>
         requires { ADDRESSES_MAX < cidr_size cidr }
         ensures { IfOk result (λ p. absent_rest p ≡ release node.now cidr) }
     {
         let node = Text::copied(alloc, node)?;
-        Ok(AbsentRelease {
-            node,
-            cidr: LargeCidr::of(cidr),
-        })
+        Ok(AbsentRelease { node, cidr })
     }
 }
 
 impl Procedure for AbsentRelease {
+    ghost use Rattle.ipam_cluster.specs.Absent.{absent_rest, absent_leaves};
+
     type Turned = AbsentTurned;
 
     type Answer = ReleaseAnswer;
@@ -57,12 +57,11 @@ impl Procedure for AbsentRelease {
 
     #[tactic(auto, using(crate::proofs::AbsentLemmas::absent_asks))]
     fn call(&self, _alloc: Global) -> Result<Call, AllocError> {
-        Ok(Call::Get(Key::Affinity(self.node.clone()?, self.cidr.get())))
+        Ok(Call::Get(Key::Affinity(self.node.clone()?, self.cidr)))
     }
 
     #[tactic(auto, using(crate::proofs::AbsentLemmas::absent_hears))]
     fn took(&self, _alloc: Global, hearing: &Heard) -> Result<AbsentTurned, AllocError> {
-        let _large = self.cidr.get();
         let moment = hearing.moment;
         Ok(AbsentTurned { moment })
     }

@@ -3,11 +3,10 @@ ghost use Rattle.std.specs.Option.{ForSome};
 ghost use Rattle.ipam_model.specs.declared.entry.Entry.TheVariants as entry;
 ghost use Rattle.ipam_model.specs.declared.limits.TheConstants.{SLOTS};
 ghost use Rattle.ipam_model.specs.Cluster.{store_with};
-ghost use Rattle.ipam_model.specs.Requests.{word_of};
 ghost use Rattle.ipam_model.specs.SoundRequest.{IsSoundRequest};
 ghost use Rattle.ipam_records.specs.Word.{answer_in};
 ghost use Rattle.ipam_cluster.specs.declared.running.Running.{Running as AnyRunning};
-ghost use Rattle.ipam_cluster.specs.Running.{running_rest, running_leaves, running_grace, grace_of};
+ghost use Rattle.ipam_cluster.specs.Running.{running_leaves};
 ghost use Rattle.ipam_store.specs.Granted.{IsGranted, IsSoundWrite};
 ghost use Rattle.ipam_cluster.specs.Busy.{busy_count};
 ghost use Rattle.ipam_cluster.specs.Slots.{slot_in, IsDue, MayGo, RunsOn};
@@ -71,23 +70,12 @@ impl Cluster {
         ensures refused { IfErr result (IsFaultOf (texts_in base.now)) }
     {
         let store = open(alloc, base.rows.as_slice(), base.counter)?;
-        match Cluster::of(alloc, store, base.first) {
-            Ok(cluster) => Ok(cluster),
-            Err(_) => Err(OpenFault::Memory),
-        }
-    }
-
-    /// A cluster in which nothing runs, over this datastore and after so many entries.
-    fn of(alloc: Global, store: Store, first: u64) -> Result<Cluster, AllocError>
-        requires { first ≤ 2 ^ 62 + SLOTS }
-        ensures store { IfOk result (λ cluster. cluster.store ≡ store) }
-        ensures entries { IfOk result (λ cluster. cluster.entries ≡ first) }
-        ensures idle { IfOk result (λ cluster. (slot : ℕ) → slot_of_cluster cluster slot ≡ None) }
-    {
-        let slots = idle_slots(alloc)?;
+        let Ok(slots) = idle_slots(alloc) else {
+            return Err(OpenFault::Memory);
+        };
         Ok(Cluster {
             store,
-            entries: first,
+            entries: base.first,
             slots,
         })
     }
@@ -141,13 +129,14 @@ impl Cluster {
         if self.entries >= MOST_ENTRIES {
             return Err(BeginFault::Worn);
         }
-        match begun(alloc, slot, request) {
-            Ok((running, entry)) => {
-                self.put(slot, Some(running));
-                Ok(entry)
-            }
-            Err(_) => Err(BeginFault::Memory),
-        }
+        let Ok(copy) = request_copied(request) else {
+            return Err(BeginFault::Memory);
+        };
+        let Ok(running) = Running::of(alloc, request) else {
+            return Err(BeginFault::Memory);
+        };
+        self.put(slot, Some(running));
+        Ok(Entry::Began(slot, copy))
     }
 
     /// Hands the slot's collection its second list, which was made at this time, in seconds. On `Err` the
@@ -298,23 +287,6 @@ impl Cluster {
     {
         if let Some(write) = write {
             self.store.apply(write);
-        }
-    }
-}
-
-/// What serves the request, and the entry of its beginning.
-fn begun(alloc: Global, slot: u8, request: &Request) -> Result<(Running, Entry), AllocError>
-    requires sound { IsSoundRequest request.now }
-    ensures word { IfOk result (λ both. running_rest both.0 ≡ word_of request.now) }
-    ensures grace { IfOk result (λ both. running_grace both.0 ≡ grace_of request.now) }
-    ensures entry { IfOk result (λ both. both.1 ≡ entry.Began slot request.now) }
-{
-    let copy = request_copied(alloc, request)?;
-    match Running::of(alloc, request) {
-        Ok(running) => Ok((running, Entry::Began(slot, copy))),
-        Err(error) => {
-            drop(copy);
-            Err(error)
         }
     }
 }

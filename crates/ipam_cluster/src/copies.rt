@@ -1,50 +1,30 @@
 //! Copies of what an entry tells of.
 ghost use Rattle.std.specs.Prelude.{◌≡◌, IfOk};
-ghost use Rattle.ipam_model.specs.declared.request.Request.TheVariants as checking;
 
-use ipam_addr::Addr;
 use ipam_model::{Admin, CollectRequest, Request};
 use ipam_text::{Seq, Text};
 use std::alloc::{AllocError, Global};
 
 /// A copy of the request.
-pub(crate) fn request_copied(alloc: Global, request: &Request) -> Result<Request, AllocError>
+pub(crate) fn request_copied(request: &Request) -> Result<Request, AllocError>
     ensures { IfOk result (λ copy. copy ≡ request.now) }
 {
     match request {
         Request::Add(add) => Ok(Request::Add(add.clone()?)),
         Request::AddThis(add, address) => Ok(Request::AddThis(add.clone()?, *address)),
         Request::Del(id) => Ok(Request::Del(id.clone()?)),
-        Request::Check(id, addresses) => check_copied(alloc, id, addresses.as_slice()),
+        Request::Check(id, addresses) => Ok(Request::Check(id.clone()?, addresses.clone()?)),
         Request::Release(node, cidr) => Ok(Request::Release(node.clone()?, *cidr)),
-        Request::Collect(collect) => Ok(Request::Collect(collect_copied(alloc, collect)?)),
+        Request::Collect(collect) => Ok(Request::Collect(collect_copied(collect)?)),
         Request::Admin(change) => Ok(Request::Admin(change_copied(change)?)),
         Request::Probe(probe) => Ok(Request::Probe(probe.clone()?)),
     }
 }
 
-fn check_copied(alloc: Global, id: &Text, addresses: &[Addr]) -> Result<Request, AllocError>
-    ensures { IfOk result (λ copy. copy ≡ checking.Check id.now addresses.now) }
-{
-    let id = id.clone()?;
-    let addresses = addresses_copied(alloc, addresses)?;
-    Ok(Request::Check(id, addresses))
-}
-
-fn addresses_copied(alloc: Global, addresses: &[Addr]) -> Result<Seq<Addr>, AllocError>
-    ensures { IfOk result (λ copy. copy ≡ addresses.now) }
-{
-    let mut copy = Seq::new(alloc);
-    for address in addresses {
-        copy.push(*address)?;
-    }
-    Ok(copy)
-}
-
-fn collect_copied(alloc: Global, collect: &CollectRequest) -> Result<CollectRequest, AllocError>
+fn collect_copied(collect: &CollectRequest) -> Result<CollectRequest, AllocError>
     ensures { IfOk result (λ copy. copy ≡ collect.now) }
 {
-    let live = live_copied(alloc, collect.live.as_slice())?;
+    let live = collect.live.clone()?;
     let scope = scope_copied(&collect.scope)?;
     Ok(CollectRequest {
         live,

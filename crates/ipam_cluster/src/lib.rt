@@ -9,11 +9,9 @@ mod begun;
 mod cluster;
 mod copies;
 mod faults;
-mod large;
 mod rows;
 mod running;
 mod slots;
-mod taken;
 mod turns;
 
 pub use base::Base;

@@ -1,18 +1,16 @@
-ghost use Rattle.std.specs.Prelude.{◌≡◌, true, Some, IsSome, IfOk, IfNone, OnOk, OnErr};
-ghost use Rattle.ipam_records.specs.Word.{next_call, after_reply, answer_in, waits, after_feed};
+ghost use Rattle.std.specs.Prelude.{◌≡◌, true, Some, IfOk, IfNone, OnOk, OnErr};
+ghost use Rattle.ipam_records.specs.Word.{answer_in, waits, after_feed};
 ghost use Rattle.ipam_model.specs.Requests.{word_of};
 ghost use Rattle.ipam_model.specs.SoundRequest.{IsSoundRequest};
-ghost use Rattle.ipam_cluster.specs.Running.{running_rest, running_leaves, running_grace, FitsRunning, grace_of, is_over, rest_of, leaves_of, grace_kept, Fits};
+ghost use Rattle.ipam_cluster.specs.Running.{running_rest, running_leaves, running_grace, FitsRunning, grace_of, is_over};
 
 use crate::absent::{AbsentRelease, AbsentTurned};
 use crate::arms::{
     absent_goes, add_goes, add_this_goes, admin_goes, check_goes, collect_goes, del_goes,
     probe_goes, release_goes,
 };
-use crate::begun::kept_of;
-use crate::taken::turned_of;
-use ipam_add::{AddProc, AddTurned};
-use ipam_assign::{AddThisProc, AddThisTurned, ProbeProc, ProbeTurned};
+use crate::begun::release_of;
+use ipam_assign::{AddProc, AddThisProc, AddThisTurned, AddTurned, ProbeProc, ProbeTurned};
 use ipam_collect::{CollectProc, CollectTurned, Grace};
 use ipam_model::{Answer, Request};
 use ipam_parts::{ReleaseAffinityProc, ReleaseTurned};
@@ -89,16 +87,41 @@ impl Running {
         ensures word { IfOk result (λ r. running_rest r ≡ word_of request.now) }
         ensures grace { IfOk result (λ r. running_grace r ≡ grace_of request.now) }
     {
-        let kept = kept_of(alloc, request)?;
-        Ok(Running { kept })
+        match request {
+            Request::Add(add) => Ok(Running {
+                kept: Kept::Add(AddProc::new(add)?),
+            }),
+            Request::AddThis(add, address) => Ok(Running {
+                kept: Kept::AddThis(AddThisProc::new(add, *address)?),
+            }),
+            Request::Del(id) => Ok(Running {
+                kept: Kept::Del(DelProc::new(alloc, id.as_str())?),
+            }),
+            Request::Check(id, addresses) => Ok(Running {
+                kept: Kept::Check(CheckProc::new(alloc, id.as_str(), addresses.as_slice())?),
+            }),
+            Request::Release(node, cidr) => release_of(alloc, node.as_str(), *cidr),
+            Request::Collect(collect) => Ok(Running {
+                kept: Kept::Collect(CollectProc::new(alloc, collect)?),
+            }),
+            Request::Admin(change) => Ok(Running {
+                kept: Kept::Admin(AdminProc::new(alloc, change)?),
+            }),
+            Request::Probe(probe) => Ok(Running {
+                kept: Kept::Probe(ProbeProc::new(probe)?),
+            }),
+        }
     }
 
     /// Whether it waits for a second list of live handles.
-    #[tactic(auto, unfolding(crate::specs::Running::running_rest), using(crate::proofs::TellingLemmas::waits_telling))]
+    #[tactic(auto, unfolding(crate::specs::Running::running_rest), using(crate::proofs::TellingLemmas::waits_telling, crate::proofs::StillLemmas::never_waits))]
     pub fn waits(&self) -> bool
         ensures { result ≡ waits (running_rest self.now) }
     {
-        kept_waits(&self.kept)
+        match &self.kept {
+            Kept::Collect(p) => p.waits(),
+            _ => false,
+        }
     }
 
     /// When a collection's first list was made, and its grace. None where it is no collection.
@@ -113,7 +136,7 @@ impl Running {
     }
 
     /// Takes the second list, which was made at this time, in seconds. On `Err` nothing has changed.
-    #[tactic(auto, unfolding(crate::specs::Running::running_rest, crate::specs::Running::running_grace))]
+    #[tactic(auto, unfolding(crate::specs::Running::running_rest, crate::specs::Running::running_grace), using(crate::proofs::TellingLemmas::waits_telling, crate::proofs::TellingLemmas::fed_telling, crate::proofs::TellingLemmas::over_late, crate::proofs::StillLemmas::never_waits))]
     pub fn feed(&mut self, alloc: Global, live: &[Text], at: u64) -> Result<(), AllocError>
         requires waits { waits (running_rest self.old) ≡ true }
         requires due { is_over (running_grace self.old) at ≡ true }
@@ -121,7 +144,10 @@ impl Running {
         ensures err { OnErr result (self.new ≡ self.old) }
         ensures grace { running_grace self.new ≡ running_grace self.old }
     {
-        feed_kept(alloc, &mut self.kept, live, at)
+        match &mut self.kept {
+            Kept::Collect(p) => p.feed(alloc, live, at),
+            _ => unreachable!(),
+        }
     }
 }
 
@@ -138,13 +164,50 @@ impl Procedure for Running {
 
     #[tactic(auto, unfolding(crate::specs::Running::running_rest))]
     fn call(&self, alloc: Global) -> Result<Call, AllocError> {
-        call_of(alloc, &self.kept)
+        match &self.kept {
+            Kept::Add(p) => p.call(alloc),
+            Kept::AddThis(p) => p.call(alloc),
+            Kept::Del(p) => p.call(alloc),
+            Kept::Check(p) => p.call(alloc),
+            Kept::Release(p) => p.call(alloc),
+            Kept::Absent(p) => p.call(alloc),
+            Kept::Collect(p) => p.call(alloc),
+            Kept::Admin(p) => p.call(alloc),
+            Kept::Probe(p) => p.call(alloc),
+        }
     }
 
     #[tactic(auto, unfolding(crate::specs::Running::running_rest, crate::specs::Running::running_leaves, crate::specs::Running::FitsRunning))]
     fn took(&self, alloc: Global, hearing: &Heard) -> Result<RunningTurned, AllocError> {
-        let turned = turned_of(alloc, &self.kept, hearing)?;
-        Ok(RunningTurned { turned })
+        match &self.kept {
+            Kept::Add(p) => Ok(RunningTurned {
+                turned: Turned::Add(p.took(alloc, hearing)?),
+            }),
+            Kept::AddThis(p) => Ok(RunningTurned {
+                turned: Turned::AddThis(p.took(alloc, hearing)?),
+            }),
+            Kept::Del(p) => Ok(RunningTurned {
+                turned: Turned::Del(p.took(alloc, hearing)?),
+            }),
+            Kept::Check(p) => Ok(RunningTurned {
+                turned: Turned::Check(p.took(alloc, hearing)?),
+            }),
+            Kept::Release(p) => Ok(RunningTurned {
+                turned: Turned::Release(p.took(alloc, hearing)?),
+            }),
+            Kept::Absent(p) => Ok(RunningTurned {
+                turned: Turned::Absent(p.took(alloc, hearing)?),
+            }),
+            Kept::Collect(p) => Ok(RunningTurned {
+                turned: Turned::Collect(p.took(alloc, hearing)?),
+            }),
+            Kept::Admin(p) => Ok(RunningTurned {
+                turned: Turned::Admin(p.took(alloc, hearing)?),
+            }),
+            Kept::Probe(p) => Ok(RunningTurned {
+                turned: Turned::Probe(p.took(alloc, hearing)?),
+            }),
+        }
     }
 
     #[tactic(auto, unfolding(crate::specs::Running::running_rest, crate::specs::Running::running_leaves, crate::specs::Running::FitsRunning, crate::specs::Running::running_grace))]
@@ -154,68 +217,43 @@ impl Procedure for Running {
         ensures on { IfNone result (running_rest self.new ≡ running_leaves self.old turned) }
         ensures grace { running_grace self.new ≡ running_grace self.old }
     {
-        goes(&mut self.kept, turned.into_turned())
-    }
-}
-
-fn goes(kept: &mut Kept, turned: Turned) -> Option<Answer>
-    requires { Fits kept.old turned }
-    ensures answer { result ≡ answer_in (leaves_of kept.old turned) }
-    ensures on { IfNone result (rest_of kept.new ≡ leaves_of kept.old turned) }
-    ensures grace { grace_kept kept.new ≡ grace_kept kept.old }
-{
-    match turned {
-        Turned::Add(turned) => add_goes(kept, turned),
-        Turned::AddThis(turned) => add_this_goes(kept, turned),
-        Turned::Del(turned) => del_goes(kept, turned),
-        Turned::Check(turned) => check_goes(kept, turned),
-        Turned::Release(turned) => release_goes(kept, turned),
-        Turned::Absent(turned) => absent_goes(kept, turned),
-        Turned::Collect(turned) => collect_goes(kept, turned),
-        Turned::Admin(turned) => admin_goes(kept, turned),
-        Turned::Probe(turned) => probe_goes(kept, turned),
-    }
-}
-
-fn call_of(alloc: Global, kept: &Kept) -> Result<Call, AllocError>
-    requires { IsSome (next_call (rest_of kept.now)) }
-    ensures { IfOk result (λ call. next_call (rest_of kept.now) ≡ Some call) }
-{
-    match kept {
-        Kept::Add(p) => p.call(alloc),
-        Kept::AddThis(p) => p.call(alloc),
-        Kept::Del(p) => p.call(alloc),
-        Kept::Check(p) => p.call(alloc),
-        Kept::Release(p) => p.call(alloc),
-        Kept::Absent(p) => p.call(alloc),
-        Kept::Collect(p) => p.call(alloc),
-        Kept::Admin(p) => p.call(alloc),
-        Kept::Probe(p) => p.call(alloc),
-    }
-}
-
-/// Only a collection waits.
-#[tactic(auto, using(crate::proofs::TellingLemmas::waits_telling, crate::proofs::StillLemmas::never_waits))]
-fn kept_waits(kept: &Kept) -> bool
-    ensures { result ≡ waits (rest_of kept.now) }
-{
-    match kept {
-        Kept::Collect(p) => p.waits(),
-        _ => false,
-    }
-}
-
-/// A collection takes the second list. Nothing else waits for one.
-#[tactic(auto, using(crate::proofs::TellingLemmas::waits_telling, crate::proofs::TellingLemmas::fed_telling, crate::proofs::TellingLemmas::over_late, crate::proofs::StillLemmas::never_waits))]
-fn feed_kept(alloc: Global, kept: &mut Kept, live: &[Text], at: u64) -> Result<(), AllocError>
-    requires waits { waits (rest_of kept.old) ≡ true }
-    requires due { is_over (grace_kept kept.old) at ≡ true }
-    ensures ok { OnOk result (rest_of kept.new ≡ after_feed (rest_of kept.old) live.now) }
-    ensures err { OnErr result (kept.new ≡ kept.old) }
-    ensures grace { grace_kept kept.new ≡ grace_kept kept.old }
-{
-    match kept {
-        Kept::Collect(p) => p.feed(alloc, live, at),
-        _ => unreachable!(),
+        match turned.into_turned() {
+            Turned::Add(turned) => match &mut self.kept {
+                Kept::Add(p) => add_goes(p, turned),
+                _ => unreachable!(),
+            },
+            Turned::AddThis(turned) => match &mut self.kept {
+                Kept::AddThis(p) => add_this_goes(p, turned),
+                _ => unreachable!(),
+            },
+            Turned::Del(turned) => match &mut self.kept {
+                Kept::Del(p) => del_goes(p, turned),
+                _ => unreachable!(),
+            },
+            Turned::Check(turned) => match &mut self.kept {
+                Kept::Check(p) => check_goes(p, turned),
+                _ => unreachable!(),
+            },
+            Turned::Release(turned) => match &mut self.kept {
+                Kept::Release(p) => release_goes(p, turned),
+                _ => unreachable!(),
+            },
+            Turned::Absent(turned) => match &mut self.kept {
+                Kept::Absent(p) => absent_goes(p, turned),
+                _ => unreachable!(),
+            },
+            Turned::Collect(turned) => match &mut self.kept {
+                Kept::Collect(p) => collect_goes(p, turned),
+                _ => unreachable!(),
+            },
+            Turned::Admin(turned) => match &mut self.kept {
+                Kept::Admin(p) => admin_goes(p, turned),
+                _ => unreachable!(),
+            },
+            Turned::Probe(turned) => match &mut self.kept {
+                Kept::Probe(p) => probe_goes(p, turned),
+                _ => unreachable!(),
+            },
+        }
     }
 }

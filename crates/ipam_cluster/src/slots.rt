@@ -74,25 +74,12 @@ pub(crate) fn go(
     ensures on { IsNone result → (was : AnyRunning) → slot_in slots.old.items slot ≡ Some was
         → RunsOn slots.old.items slots.new.items slot was (running_leaves was turned) }
 {
-    let answer = go_on(slots, slot, turned);
+    let answer = match &mut slots[slot as usize] {
+        Some(running) => running.go(turned),
+        None => unreachable!(),
+    };
     if answer.is_some() {
         put(slots, slot, None);
     }
     answer
-}
-
-fn go_on(slots: &mut Vec<Option<Running>>, slot: u8, turned: RunningTurned) -> Option<Answer>
-    requires there { slot < length slots.old.items }
-    requires may { MayGo (slot_in slots.old.items slot) turned }
-    ensures many { length slots.new.items ≡ length slots.old.items }
-    ensures answer { (was : AnyRunning) → slot_in slots.old.items slot ≡ Some was
-        → result ≡ answer_in (running_leaves was turned) }
-    ensures slots { (after : AnyRunning) × (slots.new.items ≡ slice_set slots.old.items slot (Some after)) }
-    ensures on { IsNone result → (was : AnyRunning) → slot_in slots.old.items slot ≡ Some was
-        → RunsOn slots.old.items slots.new.items slot was (running_leaves was turned) }
-{
-    match &mut slots[slot as usize] {
-        Some(running) => running.go(turned),
-        None => unreachable!(),
-    }
 }

@@ -90,23 +90,13 @@ impl Cluster {
         if self.entries >= MOST_ENTRIES {
             return Err(PrepareFault::Worn);
         }
-        match self.prepared(alloc, slot) {
+        let Ok(()) = self.store.reserve() else {
+            return Err(PrepareFault::Memory);
+        };
+        match self.answered(alloc, slot) {
             Ok(prepared) => Ok(prepared),
             Err(_) => Err(PrepareFault::Memory),
         }
-    }
-
-    fn prepared(&mut self, alloc: Global, slot: u8) -> Result<Prepared, AllocError>
-        requires slot { slot < SLOTS }
-        requires few { self.old.entries < 2 ^ 62 }
-        requires runs { state_in (slot_of_cluster self.old slot) ≡ state.Running }
-        requires stood { Stood self.old }
-        ensures slot { IfOk result (λ prepared. prepared.slot ≡ slot) }
-        ensures prepared { IfOk result (IsPrepared self.new) }
-        ensures unchanged { IsUnchanged self.old self.new }
-    {
-        self.store.reserve()?;
-        self.answered(alloc, slot)
     }
 
     /// The next call of what runs in the slot, with what the datastore answers.

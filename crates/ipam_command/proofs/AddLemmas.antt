@@ -1,5 +1,5 @@
 -- What an event adds.
-use Rattle.std.proofs.Common.{◌≡◌, ℕ, ◌+◌, ◌^◌, ◌<◌, ◌≤◌, nat_lt, true, false, List, ◌∷◌, Option, None, IsSome, refl, sym, ap, ◌∙◌, subst, inl, inr, ◌⊎◌, ltb-true, ltb-false}
+use Rattle.std.proofs.Common.{◌≡◌, ℕ, ◌+◌, ◌^◌, ◌<◌, ◌≤◌, nat_lt, true, false, List, refl, sym, ap, ◌∙◌, subst, inl, inr, ◌⊎◌, ltb-true, ltb-false}
 use Rattle.std.proofs.lemmas.Bool.{cases_Bool}
 use Rattle.ipam_model.specs.declared.entry.Entry.{Entry}
 use Rattle.ipam_model.specs.declared.entry.Entry.TheVariants as entry
@@ -50,7 +50,7 @@ one-more old new event made (base, (history, h)) adds =
     (adds.adds base history h).is_cluster.entries ∙ after-counts (cluster_at base history) made
     ∙ ap (λ (n : ℕ). n + 1) (sym h.is_cluster.entries)
 
-few : (n : ℕ) → ¬ (2 ^ 62 ≤ n) → n < 2 ^ 62
+pub few : (n : ℕ) → ¬ (2 ^ 62 ≤ n) → n < 2 ^ 62
 few n not = from (cases_Bool (nat_lt n (2 ^ 62)))
   where
     from : (nat_lt n (2 ^ 62) ≡ true) ⊎ (nat_lt n (2 ^ 62) ≡ false) → n < 2 ^ 62

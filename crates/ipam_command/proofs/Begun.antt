@@ -9,7 +9,7 @@ use Rattle.cni_asks.specs.declared.asks.Ask.TheVariants.{Tell, Begin}
 use Rattle.cni_asks.specs.Asking.{add_of, ask_of, wanting}
 use Rattle.ipam_addr.specs.Shape.{AddrValue}
 use Rattle.ipam_model.specs.declared.request.AddRequest.{AddRequest}
-use Rattle.ipam_kept.specs.Solo.{HasNoGrace}
+use Rattle.ipam_shared.specs.Solo.{HasNoGrace}
 use Rattle.ipam_command.specs.Replies.{IsOfCall, begun_by}
 
 abbrev HasNoGraceAsk : Ask → Type 0

@@ -18,7 +18,7 @@ use Rattle.ipam_command.proofs.Spared as spared
 use Rattle.ipam_command.proofs.Spared.{gc_leaves, status_adds}
 use Rattle.ipam_command.proofs.TryAgain.{call_never_again}
 use Rattle.ipam_command.specs.Alone.{SaysTryAgain}
-use Rattle.ipam_kept.specs.Rows.{texts_loaded}
+use Rattle.ipam_shared.specs.Rows.{texts_loaded}
 use Rattle.ipam_command.proofs.Shortness.{look_short}
 use Rattle.ipam_command.specs.CniCalls.{Finds, GoesWell, IsCallByRecords, IsReplySaid, LeavesWhatIsSpared, NeverSaysTryAgain, TellsOfAdd}
 use Rattle.ipam_keeper.specs.Outside.{Outside}

@@ -1,16 +1,16 @@
 -- What is counted of a history, entry by entry.
-use Rattle.std.proofs.Common.{◌≡◌, ℕ, ◌+◌, ◌<◌, ◌≤◌, ◌^◌, List, [], ◌∷◌, length, refl, sym, ap, ◌∙◌, subst, arith, zero-add}
+use Rattle.std.proofs.Common.{◌≡◌, ◌+◌, ◌<◌, ◌≤◌, ◌^◌, List, ◌∷◌, length, sym, ap, ◌∙◌, subst, arith, zero-add}
 use Rattle.std.specs.Prelude.{if◌then◌else◌}
 use Rattle.std.proofs.lemmas.List.Sums.{count_by-le-length, sum_by-cons}
 use Rattle.ipam_model.specs.declared.entry.Entry.{Entry}
 use Rattle.ipam_model.specs.Course.{Event}
-use Rattle.ipam_model.specs.History.{cluster_at, moment_of}
 use Rattle.ipam_laws.proofs.StandsFor.{entries-are}
 use Rattle.ipam_cluster.specs.declared.cluster.Cluster.{Cluster}
 use Rattle.ipam_cluster.specs.Cluster.{StandsFor, Stood}
 use Rattle.ipam_command.specs.declared.gen_counted.Counted.{Counted}
-use Rattle.ipam_command.specs.Counted.{Adds, CountsOne, HappensAs, IsCounted, IsSomewhere}
+use Rattle.ipam_command.specs.Counted.{Adds, HappensAs, IsCounted, IsSomewhere}
 use Rattle.ipam_command.specs.Requests.{base}
+use Rattle.ipam_command.proofs.AddLemmas.{few}
 use Rattle.ipam_command.specs.Summary.{again_count, answer_told, exhausted_count, is_again, is_exhausted}
 
 again-more : (made : Entry) (history : List Entry) → again_count (made ∷ history) ≡ (if is_again (answer_told made) then 1 else 0) + again_count history
@@ -44,17 +44,17 @@ few-exhausted counted (history, h) =
     let is = h.exhausted in
     omega arith
 
--- so there is room for one answer more
-pub room-again : (counted : Counted) (new : Cluster) → IsSomewhere counted → CountsOne counted.cluster new → counted.again < 2 ^ 63
-room-again counted new there one =
-    let few = few-again counted there in
-    let room = one.few in
+-- so there is room for one answer more, where there is for one entry
+pub room-again : (counted : Counted) → IsSomewhere counted → ¬ (2 ^ 62 ≤ counted.cluster.entries) → counted.again < 2 ^ 63
+room-again counted there not =
+    let less = few-again counted there in
+    let room = few counted.cluster.entries not in
     omega arith
 
-pub room-exhausted : (counted : Counted) (new : Cluster) → IsSomewhere counted → CountsOne counted.cluster new → counted.exhausted < 2 ^ 63
-room-exhausted counted new there one =
-    let few = few-exhausted counted there in
-    let room = one.few in
+pub room-exhausted : (counted : Counted) → IsSomewhere counted → ¬ (2 ^ 62 ≤ counted.cluster.entries) → counted.exhausted < 2 ^ 63
+room-exhausted counted there not =
+    let less = few-exhausted counted there in
+    let room = few counted.cluster.entries not in
     omega arith
 
 pub happens : (old new : Counted) (mid : Cluster) (event : Event) (made : Entry) → new.cluster ≡ mid → Adds old.cluster mid event made

@@ -1,8 +1,6 @@
 -- The names that are made are sound.
-use Rattle.std.proofs.Common.{◌≡◌, ℕ, ◌+◌, ◌<◌, ◌≤◌, ◌^◌, Bool, false, List, [], ◌∷◌, ◌++◌, length, get_or, arith, add-one, refl, sym, ap, ◌∙◌, subst, true, zero, suc, lt-ltb, le-leb, lit≤, lit<, ◌/◌}
-use Rattle.std.proofs.Math.Nat.{mod-lt}
-use Rattle.std.proofs.lemmas.Bool.{eqb-true}
-use Rattle.std.specs.Prelude.{IsTrue, codes, decimal, ◌&&◌, nat_le, ◌%◌, ◌==◌, if◌then◌else◌}
+use Rattle.std.proofs.Common.{◌≡◌, ℕ, ◌+◌, ◌<◌, ◌≤◌, ◌^◌, Bool, false, List, [], ◌∷◌, ◌++◌, length, arith, add-one, refl, true, zero, suc, le-leb, lit≤}
+use Rattle.std.specs.Prelude.{decimal, ◌&&◌, nat_le, ◌%◌, ◌==◌, if◌then◌else◌}
 use Rattle.std.specs.List.{list_all, All}
 use Rattle.std.specs.List.Sorted.{IsStrictlySortedBy}
 use Rattle.std.specs.Str.Parse.{AllDigits}
@@ -11,13 +9,13 @@ use Rattle.std.proofs.lemmas.Str.Parse.{digit_at}
 use Rattle.std.proofs.lemmas.Bool.Decides.{nat_tests}
 use Rattle.std.proofs.lemmas.Grind.{common_steps}
 use Rattle.std.proofs.lemmas.List.Elements.{All-append, All-nil}
-use Rattle.ipam_addr.specs.Names.{is_name_byte, is_handle_text, is_name_text}
+use Rattle.ipam_addr.specs.Names.{is_name_byte}
 use Rattle.ipam_records.specs.Sound.{IsHandleId, IsName}
 use Rattle.ipam_block.specs.Sound.{IsPair}
 use Rattle.ipam_model.specs.declared.request.Request.TheVariants.{Del}
 use Rattle.ipam_model.specs.SoundRequest.{IsLabel, IsPoolName, IsSoundRequest}
 use Rattle.ipam_command.specs.Counted.{IsNoCollection}
-use Rattle.ipam_command.specs.Draws.{draw, next_state}
+use Rattle.ipam_command.specs.Draws.{draw}
 use Rattle.ipam_command.specs.Requests.{generated_add, generated_handle, node_of, live_below, even_handle, request_of}
 
 digit-named : (d : ℕ) → 48 ≤ d → d ≤ 57 → is_name_byte d ≡ true
@@ -79,7 +77,7 @@ pub ruleset live_lemmas = (live-more, live-none, sound_live)
 nothing-each : {X : Type 0} (P : X → Type 0) → All P []
 nothing-each P = All-nil P
 
-sound-add : (handle node : ℕ) → handle < 2 ^ 64 → node < 4 → IsSoundRequest (generated_add handle node)
+pub sound-add : (handle node : ℕ) → handle < 2 ^ 64 → node < 4 → IsSoundRequest (generated_add handle node)
 unfolding generated_add IsStrictlySortedBy
 sound-add handle node small few = (
   record {
@@ -91,22 +89,6 @@ sound-add handle node small few = (
   },
   refl,
 )
-
-drawn-below : (m x : ℕ) → 0 < m → draw m x < m
-unfolding draw
-drawn-below m x some = mod-lt (next_state x / 2 ^ 33) some
-
-pub sound_request : (number x : ℕ) → number < 2 ^ 32 → IsSoundRequest (request_of number x)
-unfolding request_of
-sound_request number x small = by (number % 4 == 3) refl
-  where
-    by : (b : Bool) → number % 4 == 3 ≡ b → IsSoundRequest (if b then Del (generated_handle (draw number x)) else generated_add number (draw 4 x))
-    by true is =
-        let third : number % 4 ≡ 3 = eqb-true (number % 4) 3 is in
-        let some : 0 < number = omega arith in
-        let below = drawn-below number x some in
-        sound_handle (draw number x) (omega arith)
-    by false is = sound-add number (draw 4 x) (omega arith) (drawn-below 4 x (lit< tt))
 
 pub plain-request : (number x : ℕ) → IsNoCollection (request_of number x)
 unfolding request_of generated_add

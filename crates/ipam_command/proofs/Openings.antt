@@ -3,11 +3,11 @@ use Rattle.std.proofs.Common.{◌≡◌, ℕ, inl, inr, List, Option, Ok, Err, r
 use Rattle.ipam_io.specs.Counts.{Rose}
 use Rattle.ipam_records.specs.declared.call.Row.{Row as RowText}
 use Rattle.ipam_model.specs.declared.request.Request.{Request}
-use Rattle.ipam_kept.specs.declared.kept.Kept.{Kept}
-use Rattle.ipam_kept.specs.declared.kept.KeptFault.{KeptFault}
-use Rattle.ipam_kept.specs.declared.kept.KeptFault.TheVariants as fault
-use Rattle.ipam_kept.specs.Kept.{Tells}
-use Rattle.ipam_kept.specs.Opening.{IsFaultOf, IsOpened}
+use Rattle.ipam_shared.specs.declared.kept.Kept.{Kept}
+use Rattle.ipam_shared.specs.declared.kept.KeptFault.{KeptFault}
+use Rattle.ipam_shared.specs.declared.kept.KeptFault.TheVariants as fault
+use Rattle.ipam_shared.specs.Kept.{Tells}
+use Rattle.ipam_shared.specs.Opening.{IsFaultOf, IsOpened}
 use Rattle.cni_types.specs.declared.calls.Look.{Look}
 use Rattle.cni_types.specs.declared.error.CniError.{CniError}
 use Rattle.cni_types.specs.declared.version.Version.{Version}

@@ -7,7 +7,7 @@ use Rattle.ipam_model.specs.Alone.{alone_over}
 use Rattle.ipam_model.specs.Plain.{CanGive, plain_of}
 use Rattle.ipam_laws.proofs.AloneProbe.{probe_tells}
 use Rattle.ipam_laws.proofs.OpenedHistory.{opened_law}
-use Rattle.ipam_kept.specs.Kept.{opened}
+use Rattle.ipam_shared.specs.Kept.{opened}
 use Rattle.cni_asks.specs.declared.replies.CniReply.TheVariants.{Success}
 use Rattle.cni_asks.specs.GcAsking.{probe_of}
 use Rattle.cni_asks.specs.GcReplying.{status_reply_of}

@@ -11,8 +11,8 @@ use Rattle.ipam_laws.proofs.AloneLooks.{check_alone}
 use Rattle.ipam_laws.proofs.OpenedHistory.{opened_law}
 use Rattle.ipam_plain.specs.AloneLaws.{ComesToPlain}
 use Rattle.ipam_plain.proofs.Whole.{all_alone}
-use Rattle.ipam_kept.specs.Kept.{opened}
-use Rattle.ipam_kept.specs.Rows.{texts_loaded}
+use Rattle.ipam_shared.specs.Kept.{opened}
+use Rattle.ipam_shared.specs.Rows.{texts_loaded}
 use Rattle.ipam_command.specs.ByRecords.{ByRecordsLaw}
 use Rattle.ipam_command.proofs.SoundRequests.{IsSoundOrCheck, asked_sound}
 use Rattle.ipam_command.proofs.Spared.{replied}

@@ -8,11 +8,11 @@ use Rattle.ipam_model.specs.declared.entry.Entry.TheVariants as entry
 use Rattle.ipam_model.specs.declared.request.Request.{Request}
 use Rattle.ipam_model.specs.Alone.{alone_over}
 use Rattle.ipam_model.specs.History.{Base, store_at}
-use Rattle.ipam_kept.specs.declared.kept.Kept.{Kept}
-use Rattle.ipam_kept.specs.Kept.{KeptFor, Tells, opened}
-use Rattle.ipam_kept.specs.Rows.{AreTextsOf}
-use Rattle.ipam_kept.proofs.Courses.{answer-course, ends-kept, fault-course, no-doubt, sure-rows}
-use Rattle.ipam_kept.specs.Solo.{IsAnswered, IsFaulted, IsStopped, KeepsWithAll, base_of}
+use Rattle.ipam_shared.specs.declared.kept.Kept.{Kept}
+use Rattle.ipam_shared.specs.Kept.{KeptFor, Tells, opened}
+use Rattle.ipam_shared.specs.Rows.{AreTextsOf}
+use Rattle.ipam_shared.proofs.Courses.{answer-course, ends-kept, fault-course, no-doubt, sure-rows}
+use Rattle.ipam_shared.specs.Solo.{IsAnswered, IsFaulted, IsStopped, KeepsWithAll, base_of}
 use Rattle.cni_types.specs.declared.version.Version.{Version}
 use Rattle.ipam_command.specs.declared.cni_end.CniEnd.{CniEnd}
 use Rattle.ipam_command.specs.declared.cni_end.CniEnd.TheVariants.{Failed}

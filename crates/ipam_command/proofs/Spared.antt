@@ -19,8 +19,8 @@ use Rattle.ipam_laws.proofs.Openings.{opens_as_one}
 use Rattle.ipam_plain.proofs.Leaving.{collect_leaves}
 use Rattle.ipam_plain.proofs.Readying.{ready_adds}
 use Rattle.ipam_plain.proofs.Whole.{collect_alone}
-use Rattle.ipam_kept.specs.Kept.{opened}
-use Rattle.ipam_kept.specs.Rows.{AreTextsOf, texts_loaded}
+use Rattle.ipam_shared.specs.Kept.{opened}
+use Rattle.ipam_shared.specs.Rows.{AreTextsOf, texts_loaded}
 use Rattle.cni_types.specs.declared.calls.CniGc.{CniGc}
 use Rattle.cni_types.specs.declared.calls.Look.{Look}
 use Rattle.cni_types.specs.declared.calls.Look.TheVariants.{Gc, Status}

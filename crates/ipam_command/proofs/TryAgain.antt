@@ -16,7 +16,7 @@ use Rattle.cni_types.specs.declared.version.Version.{Version}
 use Rattle.cni_types.specs.Looking.{look_reading}
 use Rattle.cni_types.specs.Reading.{Pair}
 use Rattle.cni_asks.specs.declared.asks.Ask.TheVariants.{Begin}
-use Rattle.ipam_kept.specs.Kept.{opened}
+use Rattle.ipam_shared.specs.Kept.{opened}
 use Rattle.ipam_addr.specs.Shape.{AddrValue}
 use Rattle.cni_asks.specs.Replying.{failure_of, reply_to_add, reply_to_this, reply_to_del, reply_to_check}
 use Rattle.cni_asks.specs.GcReplying.{gc_reply_of, status_reply_of}

@@ -12,7 +12,7 @@ use Rattle.ipam_model.specs.Opened.{OpensAs, Texts}
 use Rattle.ipam_model.specs.SoundRequest.{IsSoundRequest}
 use Rattle.ipam_model.specs.Usable.{families_if}
 use Rattle.ipam_laws.specs.AlonePlain.{AsksSame, IsGivenOrWants}
-use Rattle.ipam_kept.specs.Kept.{opened}
+use Rattle.ipam_shared.specs.Kept.{opened}
 use Rattle.cni_types.specs.declared.calls.CniStatus.{CniStatus}
 use Rattle.cni_types.specs.declared.calls.Look.{Look}
 use Rattle.cni_types.specs.declared.code.Code.TheVariants.{TryAgain}

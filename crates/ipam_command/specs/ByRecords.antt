@@ -8,7 +8,7 @@ use Rattle.ipam_model.specs.declared.request.Request.{Request}
 use Rattle.ipam_model.specs.declared.request.Request.TheVariants.{Add, AddThis, Del, Check, Release, Collect, Admin, Probe}
 use Rattle.ipam_model.specs.Opened.{OpensAs}
 use Rattle.ipam_model.specs.Plain.{HasSpareFor, PlainAnswer, Gives, Lacks, KnowsNoPool, IsInNoPool, IsHeldBy, IsAnothers, Deletes, Holds, HoldsNot, Collects, CanGive, PlainResult, plain, records}
-use Rattle.ipam_kept.specs.Rows.{AreTextsOf, texts_loaded}
+use Rattle.ipam_shared.specs.Rows.{AreTextsOf, texts_loaded}
 use Rattle.cni_types.specs.declared.calls.Look.{Look}
 use Rattle.cni_types.specs.declared.code.Code.TheVariants.{NoAddress, NoSuchPool, NotAffine, AddressTaken, NotAvailable, NotRecorded, NotUsable}
 use Rattle.cni_types.specs.declared.version.Version.{Version}

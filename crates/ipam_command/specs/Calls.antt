@@ -13,12 +13,12 @@ use Rattle.ipam_model.specs.declared.request.Request.{Request}
 use Rattle.ipam_model.specs.Alone.{IsAlone, alone_over}
 use Rattle.ipam_model.specs.History.{Lawful, store_at}
 use Rattle.ipam_model.specs.Opened.{OpensAs}
-use Rattle.ipam_kept.specs.Kept.{opened}
-use Rattle.ipam_kept.specs.declared.kept.KeptFault.{KeptFault}
-use Rattle.ipam_kept.specs.declared.kept.KeptFault.TheVariants as fault
-use Rattle.ipam_kept.specs.Rows.{AreTextsOf, texts_loaded}
-use Rattle.ipam_kept.specs.Courses.{IsAnswerCourse, IsFaultCourse}
-use Rattle.ipam_kept.specs.Solo.{IsStoppedAlone}
+use Rattle.ipam_shared.specs.Kept.{opened}
+use Rattle.ipam_shared.specs.declared.kept.KeptFault.{KeptFault}
+use Rattle.ipam_shared.specs.declared.kept.KeptFault.TheVariants as fault
+use Rattle.ipam_shared.specs.Rows.{AreTextsOf, texts_loaded}
+use Rattle.ipam_shared.specs.Courses.{IsAnswerCourse, IsFaultCourse}
+use Rattle.ipam_shared.specs.Solo.{IsStoppedAlone}
 use Rattle.cni_types.specs.declared.calls.Look.{Look}
 use Rattle.cni_types.specs.declared.code.Code.TheVariants as code
 use Rattle.cni_types.specs.declared.error.CniError.{CniError}

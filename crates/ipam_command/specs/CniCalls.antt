@@ -14,8 +14,8 @@ use Rattle.ipam_model.specs.Opened.{OpensAs}
 use Rattle.ipam_model.specs.Plain.{HasSpare, HasSpareFor, PlainResult, plain}
 use Rattle.ipam_model.specs.SoundRequest.{IsSoundRequest}
 use Rattle.ipam_laws.specs.AlonePlain.{AsksSame}
-use Rattle.ipam_kept.specs.Kept.{opened}
-use Rattle.ipam_kept.specs.Rows.{texts_loaded}
+use Rattle.ipam_shared.specs.Kept.{opened}
+use Rattle.ipam_shared.specs.Rows.{texts_loaded}
 use Rattle.cni_types.specs.declared.calls.CniGc.{CniGc}
 use Rattle.cni_types.specs.declared.calls.CniStatus.{CniStatus}
 use Rattle.cni_types.specs.declared.calls.Look.{Look}

@@ -20,7 +20,7 @@ use Rattle.ipam_commands.specs.Texts.{routes_text}
 use Rattle.ipam_show.specs.Rows.{rows_text}
 use Rattle.ipam_commands.specs.declared.outcome.ChangeOutcome.{ChangeOutcome}
 use Rattle.ipam_commands.specs.Changing.{ChangeEnds, ChangeWrites, release_line}
-use Rattle.ipam_kept.specs.declared.kept.KeptFault.{KeptFault}
+use Rattle.ipam_shared.specs.declared.kept.KeptFault.{KeptFault}
 use Rattle.ipam_model.specs.declared.request.Request.TheVariants as request
 use Rattle.ipam_addr.specs.Shape.{CidrValue}
 use Rattle.cni_types.specs.Reading.{Pair}

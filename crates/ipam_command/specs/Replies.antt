@@ -8,9 +8,9 @@ use Rattle.ipam_model.specs.declared.request.Request.{Request}
 use Rattle.ipam_model.specs.declared.request.Request.TheVariants as request
 use Rattle.ipam_model.specs.Alone.{alone_over}
 use Rattle.ipam_model.specs.Opened.{IsRefusedBy, OpensAs}
-use Rattle.ipam_kept.specs.Kept.{opened}
-use Rattle.ipam_kept.specs.Rows.{AreTextsOf, texts_loaded}
-use Rattle.ipam_kept.specs.Courses.{IsAnswerCourse}
+use Rattle.ipam_shared.specs.Kept.{opened}
+use Rattle.ipam_shared.specs.Rows.{AreTextsOf, texts_loaded}
+use Rattle.ipam_shared.specs.Courses.{IsAnswerCourse}
 use Rattle.cni_types.specs.declared.calls.Look.{Look}
 use Rattle.cni_types.specs.declared.calls.Look.TheVariants.{Version, Add, Del, Check, Gc, Status}
 use Rattle.cni_types.specs.declared.code.Code.TheVariants.{BadDatastore}

@@ -6,7 +6,7 @@ use Rattle.ipam_addr.specs.Shape.{CidrValue}
 use Rattle.ipam_records.specs.declared.call.Row.{Row as RowText}
 use Rattle.ipam_records.specs.Datastore.{Datastore}
 use Rattle.ipam_model.specs.declared.request.Request.TheVariants as request
-use Rattle.ipam_kept.specs.Broken.{broken_line}
+use Rattle.ipam_shared.specs.Broken.{broken_line}
 use Rattle.ipam_words.specs.Words.{AskedCommand, Audit, Call, Cni, Play, Apply, Get, Help, Routes, Release, Gen, Serve, Show, Version}
 use Rattle.ipam_words.specs.declared.texts.TheConstants.{HELP, VERSION}
 use Rattle.ipam_play.specs.Played.{Ending, Whole, LineRefused, NotOpened}

@@ -2,8 +2,8 @@
 ghost use Rattle.std.specs.Prelude.{◌≡◌, ◌⊎◌, None, []};
 ghost use Rattle.ipam_model.specs.CanAnswer.{CanAnswer};
 ghost use Rattle.ipam_model.specs.SoundRequest.{IsSoundRequest};
-ghost use Rattle.ipam_kept.specs.Kept.{KeptFor, opened};
-ghost use Rattle.ipam_kept.specs.Solo.{HasNoGrace, NothingRuns};
+ghost use Rattle.ipam_shared.specs.Kept.{KeptFor, opened};
+ghost use Rattle.ipam_shared.specs.Solo.{HasNoGrace, NothingRuns};
 ghost use Rattle.ipam_call.specs.Versions.{version_for};
 ghost use Rattle.ipam_keeper.specs.Outside.{outside_of};
 ghost use Rattle.ipam_command.specs.Calls.{AnswerEnds, CallEnds, InputEnds, IsInVersion, RefusalEnds, RequestEnds, AloneEnds, OnWant, CniCallWent, IsNotOpenedEnd, TellsError, end_of};
@@ -17,8 +17,8 @@ use cni_types::{CniError, Code, LookFault, Version};
 use ipam_call::InputFault;
 use ipam_io::Source;
 use ipam_keeper::Keeper;
-use ipam_kept::{Kept, KeptFault, MakesSteps, OpensKept, run_alone};
 use ipam_model::{Answer, Request};
+use ipam_shared::{Kept, KeptFault, MakesSteps, OpensKept, run_alone};
 use ipam_text::Text;
 use std::alloc::{AllocError, Global};
 

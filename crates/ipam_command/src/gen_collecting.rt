@@ -6,13 +6,13 @@ ghost use Rattle.ipam_model.specs.Course.{Begin};
 ghost use Rattle.ipam_model.specs.declared.entry.Entry.{Entry};
 ghost use Rattle.ipam_model.specs.declared.entry.SlotState.TheVariants as state;
 ghost use Rattle.ipam_cluster.specs.Cluster.{slot_of_cluster, state_in};
-ghost use Rattle.ipam_command.specs.Counted.{AllRun, CountsOne, Goes, Happens, HasCollected, IsCollecting, IsCounted, IsNoCollection, IsPlain, IsSomewhere, IsStart, Turns};
+ghost use Rattle.ipam_command.specs.Counted.{AllRun, CountsOne, Goes, Happens, HasCollected, IsCounted, IsNoCollection, IsPlain, IsSomewhere, IsStart, Turns};
 ghost use Rattle.ipam_command.specs.Requests.{collection, live_below};
 
 use crate::gen_counted::Counted;
-use crate::gen_requests::{collection, live_below};
+use crate::gen_requests::live_below;
 use crate::gen_telling::freed_in;
-use ipam_model::{Request, SlotState};
+use ipam_model::{CollectRequest, Request, SlotState};
 use ipam_text::{Seq, Text};
 use std::alloc::{AllocError, Global};
 
@@ -33,7 +33,8 @@ pub(crate) fn collect(
     Ok(freed)
 }
 
-/// The collection begins.
+/// The collection whose live handles these are begins.
+#[tactic(auto, unfolding(crate::specs::Requests::collection))]
 fn begin(alloc: Global, counted: &mut Counted, live: &Seq<Text>) -> Result<(), AllocError>
     requires idle { slot_of_cluster counted.old.cluster 0 ≡ None }
     requires sound { All IsHandleId live.now }
@@ -41,7 +42,13 @@ fn begin(alloc: Global, counted: &mut Counted, live: &Seq<Text>) -> Result<(), A
     ensures { OnOk result ((count : ℕ) → live.now ≡ live_below count
         → Happens counted.old counted.new (Begin 0 (Request.Collect (collection count)))) }
 {
-    let request = collection(live)?;
+    let live = live.clone()?;
+    let request = Request::Collect(CollectRequest {
+        live,
+        at: 0,
+        grace: 0,
+        scope: None,
+    });
     let begins = counted.begin(alloc, 0, &request);
     drop(request);
     begins
@@ -56,31 +63,14 @@ fn run(alloc: Global, counted: &mut Counted, live: &[Text]) -> Result<u64, Alloc
     ensures idle { OnOk result (slot_of_cluster counted.new.cluster 0 ≡ None) }
 {
     let mut freed = 0;
-    while !counted.is_idle(0) {
-        freed = step(alloc, counted, live)?;
-    }
-    Ok(freed)
-}
-
-/// Slot 0 takes a turn, or is fed the list where it waits. Tells how many addresses were freed, where it
-/// ends with that.
-fn step(alloc: Global, counted: &mut Counted, live: &[Text]) -> Result<u64, AllocError>
-    requires sound { All IsHandleId live.now }
-    requires busy { ¬ (state_in (slot_of_cluster counted.old.cluster 0) ≡ state.Idle) }
-    requires at { (before : List Entry) × (was : ℕ) × IsCollecting counted.old live.now before was }
-    ensures goes { IfOk result (λ now. (first : Counted) (was : ℕ) → Goes first counted.old live.now was
-        → Goes first counted.new live.now now) }
-    ensures counts { OnOk result (CountsOne counted.old.cluster counted.new.cluster) }
-{
-    match counted.cluster.state(0) {
-        SlotState::Idle => unreachable!(),
-        SlotState::Running => {
-            let freed = turn(alloc, counted)?;
-            Ok(freed)
-        }
-        SlotState::Waiting => {
-            counted.feed(alloc, live)?;
-            Ok(0)
+    loop {
+        match counted.cluster.state(0) {
+            SlotState::Idle => return Ok(freed),
+            SlotState::Running => freed = turn(alloc, counted)?,
+            SlotState::Waiting => {
+                counted.feed(alloc, live)?;
+                freed = 0;
+            }
         }
     }
 }

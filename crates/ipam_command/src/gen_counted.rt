@@ -1,5 +1,5 @@
 //! A cluster that events happen to one by one, and what is counted of the answers.
-ghost use Rattle.std.specs.Prelude.{◌≡◌, ◌<◌, ◌+◌, ◌^◌, ℕ, true, false, [], None, IfOk, OnOk, if◌then◌else◌};
+ghost use Rattle.std.specs.Prelude.{◌≡◌, ◌<◌, ◌+◌, ◌^◌, ℕ, None, IfOk, OnOk, if◌then◌else◌};
 ghost use Rattle.std.specs.List.{All};
 ghost use Rattle.ipam_records.specs.Sound.{IsHandleId};
 ghost use Rattle.ipam_model.specs.Course.{Begin, Feed, Turn};
@@ -10,11 +10,9 @@ ghost use Rattle.ipam_cluster.specs.Cluster.{WaitsWith, slot_of_cluster, state_i
 ghost use Rattle.ipam_command.specs.Counted.{CountsOne};
 ghost use Rattle.ipam_command.specs.Summary.{answer_told, is_again, is_exhausted};
 
-use crate::gen_base::open;
-use crate::gen_events;
-use crate::gen_telling::{is_again, is_exhausted};
-use ipam_cluster::Cluster;
-use ipam_model::{Entry, Request, SLOTS, SlotState};
+use crate::gen_telling::answer_in;
+use ipam_cluster::{BeginFault, Cluster, FeedFault, PrepareFault};
+use ipam_model::{Answer, Entry, Fate, Request, SLOTS};
 use ipam_text::Text;
 use std::alloc::{AllocError, Global};
 
@@ -29,32 +27,10 @@ pub(crate) struct Counted {
 }
 
 impl Counted {
-    ghost use Rattle.ipam_command.specs.Counted.{Happens, HappensAs, IsCounted, IsSomewhere};
+    ghost use Rattle.ipam_command.specs.Counted.{Happens, HappensAs, IsSomewhere};
 
-    /// Nothing has happened.
-    pub(crate) fn new(alloc: Global) -> Result<Counted, AllocError>
-        ensures { IfOk result (λ counted. IsCounted counted []) }
-    {
-        Ok(Counted {
-            cluster: open(alloc)?,
-            again: 0,
-            exhausted: 0,
-        })
-    }
-
-    /// Whether nothing runs in the slot.
-    pub(crate) fn is_idle(&self, slot: u8) -> bool
-        requires { slot < SLOTS }
-        ensures idle { result ≡ true → slot_of_cluster self.now.cluster slot ≡ None }
-        ensures busy { result ≡ false → ¬ (state_in (slot_of_cluster self.now.cluster slot) ≡ state.Idle) }
-    {
-        match self.cluster.state(slot) {
-            SlotState::Idle => true,
-            SlotState::Running | SlotState::Waiting => false,
-        }
-    }
-
-    /// The request begins in the slot.
+    /// The request begins in the slot. On `Err` there was no memory; so it is reported where the cluster has
+    /// 2^62 entries, which no process lives to see.
     pub(crate) fn begin(
         &mut self,
         alloc: Global,
@@ -68,13 +44,18 @@ impl Counted {
         ensures happens { OnOk result (Happens self.old self.new (Begin slot request.now)) }
         ensures counts { OnOk result (CountsOne self.old.cluster self.new.cluster) }
     {
-        let entry = gen_events::begin(alloc, &mut self.cluster, slot, request)?;
-        self.note(&entry);
-        drop(entry);
-        Ok(())
+        match self.cluster.begin(alloc, slot, request) {
+            Ok(entry) => {
+                self.note(&entry);
+                drop(entry);
+                Ok(())
+            }
+            Err(BeginFault::SlotBusy) => unreachable!(),
+            Err(BeginFault::Worn | BeginFault::Memory) => Err(AllocError),
+        }
     }
 
-    /// The slot takes a turn.
+    /// The slot takes a turn: its next call is made. On `Err` likewise.
     pub(crate) fn turn(&mut self, alloc: Global, slot: u8) -> Result<Entry, AllocError>
         requires slot { slot < SLOTS }
         requires running { state_in (slot_of_cluster self.old.cluster slot) ≡ state.Running }
@@ -83,12 +64,19 @@ impl Counted {
         ensures counts { OnOk result (CountsOne self.old.cluster self.new.cluster) }
         ensures others { (other : ℕ) → ¬ (other ≡ slot) → slot_of_cluster self.new.cluster other ≡ slot_of_cluster self.old.cluster other }
     {
-        let entry = gen_events::turn(alloc, &mut self.cluster, slot)?;
-        self.note(&entry);
-        Ok(entry)
+        match self.cluster.prepare(alloc, slot) {
+            Ok(prepared) => {
+                let entry = self.cluster.commit(prepared, Fate::Well);
+                self.note(&entry);
+                Ok(entry)
+            }
+            Err(PrepareFault::SlotIdle | PrepareFault::Waiting) => unreachable!(),
+            Err(PrepareFault::Worn | PrepareFault::Memory) => Err(AllocError),
+        }
     }
 
-    /// The collection that waits in slot 0 is fed the list.
+    /// The collection that waits in slot 0 is fed the list. It has no grace, so the list is not too early.
+    /// On `Err` likewise.
     pub(crate) fn feed(&mut self, alloc: Global, live: &[Text]) -> Result<(), AllocError>
         requires waits { WaitsWith (slot_of_cluster self.old.cluster 0) (record { at = 0; grace = 0 }) }
         requires sound { All IsHandleId live.now }
@@ -96,10 +84,21 @@ impl Counted {
         ensures happens { OnOk result (Happens self.old self.new (Feed 0 0 live.now)) }
         ensures counts { OnOk result (CountsOne self.old.cluster self.new.cluster) }
     {
-        let entry = gen_events::feed(alloc, &mut self.cluster, live)?;
-        self.note(&entry);
-        drop(entry);
-        Ok(())
+        match self.cluster.feed(alloc, 0, live, 0) {
+            Ok(entry) => {
+                self.note(&entry);
+                drop(entry);
+                Ok(())
+            }
+            Err(FeedFault::NotWaiting) => unreachable!(),
+            Err(
+                FeedFault::TooSoon {
+                    at: _since,
+                    grace: _grace,
+                },
+            ) => unreachable!(),
+            Err(FeedFault::Worn | FeedFault::Memory) => Err(AllocError),
+        }
     }
 
     /// Counts the answer, if the entry has one.
@@ -110,11 +109,10 @@ impl Counted {
         ensures exhausted { self.new.exhausted ≡ (if is_exhausted (answer_told entry.now) then 1 else 0) + self.old.exhausted }
         ensures cluster { self.new.cluster ≡ self.old.cluster }
     {
-        if is_again(entry) {
-            self.again += 1;
-        }
-        if is_exhausted(entry) {
-            self.exhausted += 1;
+        match answer_in(entry) {
+            Some(Answer::Again(_, _)) => self.again += 1,
+            Some(Answer::Exhausted(_)) => self.exhausted += 1,
+            _ => {}
         }
     }
 }

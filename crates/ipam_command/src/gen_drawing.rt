@@ -1,16 +1,13 @@
 //! Requests begin in slots that are drawn, and run by turns that are drawn.
-ghost use Rattle.std.specs.Prelude.{◌≡◌, ◌<◌, ◌≤◌, ◌+◌, ◌-◌, ◌^◌, ℕ, [], IfOk, OnOk, None};
-ghost use Rattle.ipam_model.specs.Course.{Begin};
-ghost use Rattle.ipam_cluster.specs.Cluster.{slot_of_cluster};
-ghost use Rattle.ipam_command.specs.Counted.{CountsOne, Happens, IsCounted, IsDrawing, IsPlain, IsSomewhere};
-ghost use Rattle.ipam_command.specs.Draws.{next_state};
+ghost use Rattle.std.specs.Prelude.{◌<◌, ◌≤◌, ◌+◌, ◌-◌, ◌^◌, ℕ, [], IfOk, OnOk};
+ghost use Rattle.ipam_command.specs.Counted.{CountsOne, IsCounted, IsDrawing, IsPlain};
 ghost use Rattle.ipam_command.specs.Generated.{IsDrawn};
 ghost use Rattle.ipam_command.specs.Requests.{request_of};
 
 use crate::gen_counted::Counted;
 use crate::gen_draws::Draws;
 use crate::gen_requests::request_of;
-use ipam_model::{SLOTS, SlotState};
+use ipam_model::SlotState;
 use std::alloc::{AllocError, Global};
 
 /// Draws until so many requests have begun.
@@ -48,7 +45,10 @@ fn draw_once(
     let slot = drawn as u8;
     match counted.cluster.state(slot) {
         SlotState::Idle => {
-            begin_next(alloc, counted, draws, slot, begun)?;
+            let request = request_of(alloc, begun, draws)?;
+            let begins = counted.begin(alloc, slot, &request);
+            drop(request);
+            begins?;
             Ok(begun + 1)
         }
         SlotState::Running => {
@@ -57,25 +57,4 @@ fn draw_once(
         }
         SlotState::Waiting => unreachable!(),
     }
-}
-
-/// The request of this number begins in the slot.
-fn begin_next(
-    alloc: Global,
-    counted: &mut Counted,
-    draws: &mut Draws,
-    slot: u8,
-    number: u32,
-) -> Result<(), AllocError>
-    requires slot { slot < SLOTS }
-    requires idle { slot_of_cluster counted.old.cluster slot ≡ None }
-    requires somewhere { IsSomewhere counted.old }
-    ensures happens { OnOk result (Happens counted.old counted.new (Begin slot (request_of number draws.old.x))) }
-    ensures state { OnOk result (draws.new.x ≡ next_state draws.old.x) }
-    ensures counts { OnOk result (CountsOne counted.old.cluster counted.new.cluster) }
-{
-    let request = request_of(alloc, number, draws)?;
-    let begins = counted.begin(alloc, slot, &request);
-    drop(request);
-    begins
 }

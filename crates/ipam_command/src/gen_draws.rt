@@ -26,21 +26,14 @@ impl Draws {
     }
 
     /// Draws a number below this one.
-    #[tactic(auto, unfolding(crate::specs::Draws::draw))]
+    #[tactic(auto, unfolding(crate::specs::Draws::draw, crate::specs::Draws::next_state))]
     pub(crate) fn draw(&mut self, below: u64) -> u64
         requires { 0 < below }
         ensures value { result ≡ draw below self.old.x }
         ensures small { result < below }
         ensures state { self.new.x ≡ next_state self.old.x }
     {
-        self.x = next_state(self.x);
+        self.x = ((FACTOR * u128::from(self.x) + TERM) % STATES) as u64;
         self.x / UNTOLD % below
     }
-}
-
-#[tactic(auto, unfolding(crate::specs::Draws::next_state))]
-fn next_state(x: u64) -> u64
-    ensures { result ≡ next_state x }
-{
-    ((FACTOR * u128::from(x) + TERM) % STATES) as u64
 }

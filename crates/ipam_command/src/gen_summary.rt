@@ -39,18 +39,12 @@ impl Numbers {
 }
 
 /// Appends the line of the number of this name.
+#[tactic(auto, unfolding(crate::specs::Summary::number_line))]
 fn push_line(alloc: Global, text: &mut String, name: &str, number: u128) -> Result<(), AllocError>
     ensures { OnOk result (string_bytes text.new ≡ string_bytes text.old ++ number_line name.now number) }
 {
-    let line = line(alloc, name, number)?;
+    let line = format!(in alloc; "{name} {number}\n")?;
     text.push_str(line.as_str())
-}
-
-#[tactic(auto, unfolding(crate::specs::Summary::number_line))]
-fn line(alloc: Global, name: &str, number: u128) -> Result<String, AllocError>
-    ensures { IfOk result (λ text. string_bytes text ≡ number_line name.now number) }
-{
-    format!(in alloc; "{name} {number}\n")
 }
 
 /// How many addresses are owned.

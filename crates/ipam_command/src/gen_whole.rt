@@ -4,6 +4,7 @@ ghost use Rattle.ipam_command.specs.Counted.{IsCounted};
 ghost use Rattle.ipam_command.specs.Numbers.{IsCourse, summary_in};
 ghost use Rattle.ipam_command.specs.Summary.{CountsFaults, HasWrittenSummary, IsSummaryText};
 
+use crate::gen_base::open;
 use crate::gen_collecting::collect;
 use crate::gen_counted::Counted;
 use crate::gen_drawing::draw_all;
@@ -35,7 +36,11 @@ pub fn generate<K: Sink>(alloc: Global, requests: u32, sink: &mut K) -> GenEnd
 fn summary(alloc: Global, requests: u32) -> Result<String, AllocError>
     ensures { IfOk result (λ text. IsSummaryText requests (string_bytes text)) }
 {
-    let mut counted = Counted::new(alloc)?;
+    let mut counted = Counted {
+        cluster: open(alloc)?,
+        again: 0,
+        exhausted: 0,
+    };
     let numbers = run(alloc, &mut counted, requests)?;
     numbers.text(alloc)
 }

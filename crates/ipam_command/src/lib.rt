@@ -20,7 +20,6 @@ mod gen_counted;
 mod gen_drawing;
 mod gen_draws;
 mod gen_end;
-mod gen_events;
 mod gen_requests;
 mod gen_running;
 mod gen_summary;

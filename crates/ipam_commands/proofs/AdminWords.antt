@@ -29,7 +29,7 @@ use Rattle.ipam_model.specs.Reads.{pools_said, reservations_said}
 use Rattle.ipam_model.specs.Requests.{word_of}
 use Rattle.ipam_model.specs.Step.{Part, answer_of, goes, left_of, on_write, stops, tries}
 use Rattle.ipam_model.specs.Told.{of_admin}
-use Rattle.ipam_kept.specs.Kept.{opened}
+use Rattle.ipam_shared.specs.Kept.{opened}
 use Rattle.ipam_resources.specs.Printed.{numbered_refusal}
 use Rattle.ipam_commands.specs.Ready.{IsOfDocument}
 

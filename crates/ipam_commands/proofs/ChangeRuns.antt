@@ -19,17 +19,17 @@ use Rattle.ipam_model.specs.History.{Base}
 use Rattle.ipam_model.specs.SoundRequest.{IsSoundRequest}
 use Rattle.ipam_model.specs.Told.{of_admin, of_release}
 use Rattle.ipam_laws.proofs.AloneAgain.{alone_again}
-use Rattle.ipam_kept.specs.declared.kept.Kept.{Kept}
-use Rattle.ipam_kept.specs.declared.kept.KeptFault.{KeptFault}
-use Rattle.ipam_kept.specs.declared.kept.KeptFault.TheVariants as fault
-use Rattle.ipam_kept.specs.Kept.{KeptFor, Tells, opened}
-use Rattle.ipam_kept.specs.Opening.{IsFaultOf, IsOpened}
-use Rattle.ipam_kept.specs.Solo.{IsAnswered, IsFaulted, IsStopped, base_of}
+use Rattle.ipam_shared.specs.declared.kept.Kept.{Kept}
+use Rattle.ipam_shared.specs.declared.kept.KeptFault.{KeptFault}
+use Rattle.ipam_shared.specs.declared.kept.KeptFault.TheVariants as fault
+use Rattle.ipam_shared.specs.Kept.{KeptFor, Tells, opened}
+use Rattle.ipam_shared.specs.Opening.{IsFaultOf, IsOpened}
+use Rattle.ipam_shared.specs.Solo.{IsAnswered, IsFaulted, IsStopped, base_of}
 use Rattle.ipam_commands.specs.declared.outcome.ChangeOutcome.{ChangeOutcome}
 use Rattle.ipam_commands.specs.declared.outcome.ChangeOutcome.TheVariants as outcome
 use Rattle.ipam_commands.specs.Courses.{AreRowsOf}
 use Rattle.ipam_commands.specs.Changing.{ChangeEnds, ChangeRuns, IsChange, outcome_of}
-use Rattle.ipam_kept.proofs.Courses.{answer-course, fault-course}
+use Rattle.ipam_shared.proofs.Courses.{answer-course, fault-course}
 use Rattle.ipam_commands.proofs.CourseRuns.{stop-course}
 
 -- ---- what an answer comes to

@@ -2,10 +2,10 @@
 use Rattle.std.proofs.Common.{◌≡◌, ℕ, [], None}
 use Rattle.ipam_model.specs.declared.request.Request.{Request}
 use Rattle.ipam_model.specs.History.{Base}
-use Rattle.ipam_kept.specs.declared.kept.Kept.{Kept}
-use Rattle.ipam_kept.specs.Kept.{KeptFor, Tells}
-use Rattle.ipam_kept.specs.Solo.{IsStopped}
-use Rattle.ipam_kept.proofs.Courses.{ends-kept, no-doubt, sure-rows}
+use Rattle.ipam_shared.specs.declared.kept.Kept.{Kept}
+use Rattle.ipam_shared.specs.Kept.{KeptFor, Tells}
+use Rattle.ipam_shared.specs.Solo.{IsStopped}
+use Rattle.ipam_shared.proofs.Courses.{ends-kept, no-doubt, sure-rows}
 use Rattle.ipam_commands.specs.Courses.{IsStopCourse}
 
 pub stop-course : {D : Type 0} (tells : Tells D) (faults : D → ℕ) (asked : Request) (old new : Kept D) (base : Base) → KeptFor tells old base []

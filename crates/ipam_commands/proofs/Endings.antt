@@ -1,11 +1,11 @@
 -- How a document and its resources end.
 use Rattle.std.proofs.Common.{◌≡◌, ◌≢◌, ◌⊎◌, inl, inr, ℕ, List, Option, Err, length, refl, sym, ◌∙◌, subst, ltb-false, None}
 use Rattle.std.specs.Io.KnownBytes.{IsAtEnd}
-use Rattle.ipam_kept.specs.declared.kept.Kept.{Kept}
-use Rattle.ipam_kept.specs.declared.kept.KeptFault.{KeptFault}
-use Rattle.ipam_kept.specs.declared.kept.KeptFault.TheVariants as fault
-use Rattle.ipam_kept.specs.Kept.{Tells}
-use Rattle.ipam_kept.specs.Opening.{IsFaultOf, IsOpened}
+use Rattle.ipam_shared.specs.declared.kept.Kept.{Kept}
+use Rattle.ipam_shared.specs.declared.kept.KeptFault.{KeptFault}
+use Rattle.ipam_shared.specs.declared.kept.KeptFault.TheVariants as fault
+use Rattle.ipam_shared.specs.Kept.{Tells}
+use Rattle.ipam_shared.specs.Opening.{IsFaultOf, IsOpened}
 use Rattle.ipam_records.specs.declared.call.Row.{Row as RowText}
 use Rattle.ipam_resources.specs.declared.fault.DocumentFault.{DocumentFault}
 use Rattle.ipam_resources.specs.declared.fault.DocumentFault.TheVariants as document_fault

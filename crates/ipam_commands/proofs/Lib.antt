@@ -12,3 +12,10 @@ pub mod Runs
 pub mod Endings
 pub mod AnySource
 pub mod FixedLines
+pub mod AuditSteps
+pub mod Listing
+pub mod Bounds
+pub mod Counting
+pub mod Opened
+pub mod Sharing
+mod Causes

@@ -12,9 +12,9 @@ use Rattle.ipam_opening.specs.Opening.{IsFaultOf}
 use Rattle.ipam_records.specs.declared.call.Row.{Row as RowText}
 use Rattle.ipam_records.specs.Datastore.{Datastore}
 use Rattle.ipam_model.specs.Opened.{OpensAs}
-use Rattle.ipam_kept.specs.declared.kept.KeptFault.{KeptFault}
-use Rattle.ipam_kept.specs.Faults.{IsOpening, IsWhyNot, not_opened}
-use Rattle.ipam_kept.specs.Rows.{texts_loaded}
+use Rattle.ipam_shared.specs.declared.kept.KeptFault.{KeptFault}
+use Rattle.ipam_shared.specs.Faults.{IsOpening, IsWhyNot, not_opened}
+use Rattle.ipam_shared.specs.Rows.{texts_loaded}
 use Rattle.ipam_commands.specs.Telling.{AreOpened, IsLoadedAs, IsNotLoaded}
 
 -- ---- why they are not opened

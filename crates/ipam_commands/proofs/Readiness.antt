@@ -6,12 +6,12 @@ use Rattle.ipam_model.specs.History.{Base, Lawful, cluster_at}
 use Rattle.ipam_laws.proofs.SlotsHistory.{consistent_law}
 use Rattle.ipam_cluster.specs.declared.running.Running.{Running}
 use Rattle.ipam_cluster.specs.Cluster.{IsSlot, StandsFor, slot_of_cluster}
-use Rattle.ipam_kept.specs.declared.kept.Kept.{Kept}
-use Rattle.ipam_kept.specs.declared.write.RowWrite.{RowWrite}
-use Rattle.ipam_kept.specs.Doubt.{IsDoubt}
-use Rattle.ipam_kept.specs.Kept.{IsKept, KeptFor, Tells}
-use Rattle.ipam_kept.specs.Rows.{AreToldKept}
-use Rattle.ipam_kept.specs.Solo.{NothingRuns, base_of}
+use Rattle.ipam_shared.specs.declared.kept.Kept.{Kept}
+use Rattle.ipam_shared.specs.declared.write.RowWrite.{RowWrite}
+use Rattle.ipam_shared.specs.Doubt.{IsDoubt}
+use Rattle.ipam_shared.specs.Kept.{IsKept, KeptFor, Tells}
+use Rattle.ipam_shared.specs.Rows.{AreToldKept}
+use Rattle.ipam_shared.specs.Solo.{NothingRuns, base_of}
 use Rattle.ipam_commands.specs.Courses.{AreRowsOf}
 use Rattle.ipam_commands.specs.Ready.{IsReady}
 

@@ -13,9 +13,9 @@ use Rattle.ipam_model.specs.Alone.{alone_over}
 use Rattle.ipam_model.specs.CanAnswer.{CanAnswer}
 use Rattle.ipam_model.specs.Told.{of_admin}
 use Rattle.ipam_laws.proofs.AloneAgain.{alone_again}
-use Rattle.ipam_kept.specs.declared.kept.Kept.{Kept}
-use Rattle.ipam_kept.specs.Kept.{IsKept, Tells}
-use Rattle.ipam_kept.specs.Solo.{IsAnswered, IsFaulted, IsStopped, NothingRuns, base_of}
+use Rattle.ipam_shared.specs.declared.kept.Kept.{Kept}
+use Rattle.ipam_shared.specs.Kept.{IsKept, Tells}
+use Rattle.ipam_shared.specs.Solo.{IsAnswered, IsFaulted, IsStopped, NothingRuns, base_of}
 use Rattle.ipam_resources.specs.declared.refusal.Refusal.TheVariants as refusal
 use Rattle.ipam_resources.specs.declared.resource.Resource.{Resource}
 use Rattle.ipam_resources.specs.Printed.{applied_line, answer_refusal}
@@ -23,7 +23,7 @@ use Rattle.ipam_commands.specs.declared.status.Status.{Status}
 use Rattle.ipam_commands.specs.declared.status.Status.TheVariants as status
 use Rattle.ipam_commands.specs.Courses.{AreRowsOf}
 use Rattle.ipam_commands.specs.Telling.{Cut, Untold as NoText, Whole, Writes}
-use Rattle.ipam_kept.proofs.Courses.{answer-course, fault-course}
+use Rattle.ipam_shared.proofs.Courses.{answer-course, fault-course}
 use Rattle.ipam_commands.proofs.CourseRuns.{stop-course}
 use Rattle.ipam_commands.specs.declared.step.Step.{Step}
 use Rattle.ipam_commands.specs.declared.step.Step.TheVariants.{Applied, Ended}

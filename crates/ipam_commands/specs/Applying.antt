@@ -7,13 +7,13 @@ use Rattle.ipam_model.specs.declared.answer.Answer.TheVariants as answer
 use Rattle.ipam_model.specs.declared.request.Request.{Request}
 use Rattle.ipam_model.specs.declared.request.Request.TheVariants.{Admin}
 use Rattle.ipam_model.specs.Alone.{alone_over}
-use Rattle.ipam_kept.specs.Kept.{opened}
+use Rattle.ipam_shared.specs.Kept.{opened}
 use Rattle.ipam_resources.specs.declared.refusal.Refusal.{Refusal}
 use Rattle.ipam_resources.specs.declared.resource.Resource.{Resource}
 use Rattle.ipam_resources.specs.Printed.{applied_line, answer_refusal, refused_line}
 use Rattle.ipam_commands.specs.declared.status.Status.{Status}
 use Rattle.ipam_commands.specs.declared.status.Status.TheVariants as status
-use Rattle.ipam_kept.specs.Courses.{IsAnswerCourse, IsFaultCourse}
+use Rattle.ipam_shared.specs.Courses.{IsAnswerCourse, IsFaultCourse}
 use Rattle.ipam_commands.specs.Courses.{IsStopCourse}
 use Rattle.ipam_commands.specs.Telling.{keeper_line}
 use Rattle.ipam_commands.specs.declared.step.Step.{Step}

@@ -10,14 +10,14 @@ use Rattle.ipam_model.specs.declared.request.Request.{Request}
 use Rattle.ipam_model.specs.declared.request.Request.TheVariants as request
 use Rattle.ipam_model.specs.Alone.{alone_over}
 use Rattle.ipam_model.specs.CanAnswer.{CanAnswer}
-use Rattle.ipam_kept.specs.Kept.{opened}
-use Rattle.ipam_kept.specs.declared.kept.KeptFault.{KeptFault}
-use Rattle.ipam_kept.specs.declared.kept.KeptFault.TheVariants as fault
+use Rattle.ipam_shared.specs.Kept.{opened}
+use Rattle.ipam_shared.specs.declared.kept.KeptFault.{KeptFault}
+use Rattle.ipam_shared.specs.declared.kept.KeptFault.TheVariants as fault
 use Rattle.ipam_commands.specs.declared.outcome.ChangeOutcome.{ChangeOutcome}
 use Rattle.ipam_commands.specs.declared.outcome.ChangeOutcome.TheVariants as outcome
 use Rattle.ipam_commands.specs.declared.status.Status.{Status}
 use Rattle.ipam_commands.specs.declared.status.Status.TheVariants as status
-use Rattle.ipam_kept.specs.Courses.{IsAnswerCourse, IsFaultCourse}
+use Rattle.ipam_shared.specs.Courses.{IsAnswerCourse, IsFaultCourse}
 use Rattle.ipam_commands.specs.Courses.{AreRowsOf, IsStopCourse}
 use Rattle.ipam_commands.specs.Telling.{AreBroken, AreOpened, FaultWrites}
 

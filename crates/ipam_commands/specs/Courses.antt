@@ -5,8 +5,8 @@ use Rattle.ipam_records.specs.Datastore.{Datastore}
 use Rattle.ipam_model.specs.declared.entry.Entry.{Entry}
 use Rattle.ipam_model.specs.declared.request.Request.{Request}
 use Rattle.ipam_model.specs.History.{Base, Lawful, store_at}
-use Rattle.ipam_kept.specs.Rows.{AreTextsOf}
-use Rattle.ipam_kept.specs.Solo.{IsStoppedAlone}
+use Rattle.ipam_shared.specs.Rows.{AreTextsOf}
+use Rattle.ipam_shared.specs.Solo.{IsStoppedAlone}
 
 -- the rows are the datastore's, where they are known
 abbrev pub AreRowsOf : Option (List RowText) → Datastore → Type 0

@@ -10,3 +10,8 @@ pub mod ToldApply
 pub mod Ready
 pub mod Inputs
 pub mod Applied
+pub mod Reported
+pub mod Parts
+pub mod Printed
+pub mod Words
+pub mod Run

@@ -4,9 +4,9 @@ use Rattle.ipam_model.specs.declared.request.Admin.{Admin}
 use Rattle.ipam_model.specs.declared.request.Admin.TheVariants as change
 use Rattle.ipam_model.specs.SoundRequest.{IsSoundChange}
 use Rattle.ipam_resources.specs.declared.resource.Resource.{Resource}
-use Rattle.ipam_kept.specs.declared.kept.Kept.{Kept}
-use Rattle.ipam_kept.specs.Kept.{KeptFor, Tells}
-use Rattle.ipam_kept.specs.Solo.{NothingRuns, base_of}
+use Rattle.ipam_shared.specs.declared.kept.Kept.{Kept}
+use Rattle.ipam_shared.specs.Kept.{KeptFor, Tells}
+use Rattle.ipam_shared.specs.Solo.{NothingRuns, base_of}
 use Rattle.ipam_commands.specs.declared.step.Step.{Step}
 use Rattle.ipam_commands.specs.declared.step.Step.TheVariants.{Applied, Ended}
 

@@ -7,10 +7,10 @@ use Rattle.ipam_keeper.specs.Keeping.{IsTold}
 use Rattle.ipam_records.specs.declared.call.Row.{Row as RowText}
 use Rattle.ipam_records.specs.Datastore.{Datastore}
 use Rattle.ipam_model.specs.Opened.{IsRefusedBy, OpensAs}
-use Rattle.ipam_kept.specs.declared.kept.KeptFault.{KeptFault}
-use Rattle.ipam_kept.specs.declared.kept.KeptFault.TheVariants.{Keeper, Refused, Memory}
-use Rattle.ipam_kept.specs.Broken.{broken_line}
-use Rattle.ipam_kept.specs.Rows.{texts_loaded}
+use Rattle.ipam_shared.specs.declared.kept.KeptFault.{KeptFault}
+use Rattle.ipam_shared.specs.declared.kept.KeptFault.TheVariants.{Keeper, Refused, Memory}
+use Rattle.ipam_shared.specs.Broken.{broken_line}
+use Rattle.ipam_shared.specs.Rows.{texts_loaded}
 use Rattle.ipam_commands.specs.declared.status.Status.{Status}
 use Rattle.ipam_commands.specs.declared.status.Status.TheVariants as status
 pub use Rattle.ipam_keeper.specs.Keeping.{keeper_line}

@@ -2,9 +2,9 @@
 ghost use Rattle.std.specs.Prelude.{◌≡◌, ◌≢◌, ◌⊎◌, ℕ, List, [], IsSome, Some, None, Err, IfOk, OnErr, Result};
 ghost use Rattle.ipam_model.specs.declared.request.Request.{Request as OneRequest};
 ghost use Rattle.ipam_model.specs.SoundRequest.{IsSoundRequest};
-ghost use Rattle.ipam_kept.specs.declared.kept.KeptFault.{KeptFault as Fault};
-ghost use Rattle.ipam_kept.specs.Kept.{KeptFor, opened};
-ghost use Rattle.ipam_kept.specs.Solo.{HasNoGrace, NothingRuns};
+ghost use Rattle.ipam_shared.specs.declared.kept.KeptFault.{KeptFault as Fault};
+ghost use Rattle.ipam_shared.specs.Kept.{KeptFor, opened};
+ghost use Rattle.ipam_shared.specs.Solo.{HasNoGrace, NothingRuns};
 ghost use Rattle.ipam_commands.specs.declared.outcome.ChangeOutcome.{ChangeOutcome as Outcome};
 ghost use Rattle.ipam_commands.specs.Changing.{ChangeEnds, ChangeRuns, ChangeWrites, IsChange, outcome_of};
 ghost use Rattle.ipam_commands.specs.Telling.{Writes};
@@ -14,8 +14,8 @@ use crate::status::Status;
 use crate::telling::{MakesBroken, tell, tell_fault};
 use ipam_io::Sink;
 use ipam_keeper::Keeper;
-use ipam_kept::{Kept, KeptFault, MakesSteps, OpensKept, run_alone};
 use ipam_model::{Answer, Request};
+use ipam_shared::{Kept, KeptFault, MakesSteps, OpensKept, run_alone};
 use std::alloc::AllocError;
 
 /// A request that changes one thing, with what takes the memory for it. What is generic over it knows nothing of

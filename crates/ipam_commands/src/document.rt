@@ -11,8 +11,8 @@ use crate::telling::{MakesBroken, tell};
 use crate::told_apply::tell_document;
 use ipam_io::{InputFault, Sink, Source};
 use ipam_keeper::Keeper;
-use ipam_kept::{MakesSteps, OpensKept};
 use ipam_resources::DOCUMENT_MAX;
+use ipam_shared::{MakesSteps, OpensKept};
 use std::alloc::Global;
 
 /// Applies the resources of the source's document, one after another, each as a request that runs by itself

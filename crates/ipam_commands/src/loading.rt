@@ -3,16 +3,16 @@ ghost use Rattle.std.specs.Prelude.{◌≡◌, Err, IfOk, IfErr, OnOk};
 ghost use Rattle.ipam_io.specs.Counts.{Rose};
 ghost use Rattle.ipam_keeper.specs.Keeping.{IsTold, OnFailed, UnlessFailed};
 ghost use Rattle.ipam_keeper.specs.Rows.{Ascend};
-ghost use Rattle.ipam_kept.specs.Faults.{IsWhyNot};
-ghost use Rattle.ipam_kept.specs.Rows.{texts_loaded};
+ghost use Rattle.ipam_shared.specs.Faults.{IsWhyNot};
+ghost use Rattle.ipam_shared.specs.Rows.{texts_loaded};
 ghost use Rattle.ipam_model.specs.Opened.{OpensAs};
 ghost use Rattle.ipam_opening.specs.Opening.{IsFaultOf};
 ghost use Rattle.ipam_commands.specs.Telling.{AreOpened, IsLoadedAs, IsNotLoaded};
 
 use ipam_keeper::{KeepFault, Keeper};
-use ipam_kept::{KeptFault, Opens, greatest_revision, open_loaded};
 use ipam_opening::{OpenFault, open};
 use ipam_records::Row;
+use ipam_shared::{KeptFault, Opens, greatest_revision, open_loaded};
 use ipam_store::Store;
 use std::alloc::Global;
 

@@ -3,7 +3,7 @@ ghost use Rattle.std.specs.Prelude.{◌≡◌, ◌⊎◌, ℕ, List, IfOk, OnErr
 ghost use Rattle.ipam_records.specs.declared.call.Row.{Row as RowText};
 ghost use Rattle.ipam_records.specs.Datastore.{Datastore};
 ghost use Rattle.ipam_model.specs.Opened.{OpensAs};
-ghost use Rattle.ipam_kept.specs.Rows.{texts_loaded};
+ghost use Rattle.ipam_shared.specs.Rows.{texts_loaded};
 ghost use Rattle.ipam_commands.specs.Telling.{ReportsRows, Writes};
 
 use crate::loading::{Loaded, OpensRows, load};

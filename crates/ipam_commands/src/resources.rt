@@ -12,8 +12,8 @@ use crate::step::{Step, apply_one};
 use crate::telling::{MakesBroken, tell_fault};
 use ipam_io::Sink;
 use ipam_keeper::Keeper;
-use ipam_kept::{Kept, MakesSteps, OpensKept};
 use ipam_resources::Resource;
+use ipam_shared::{Kept, MakesSteps, OpensKept};
 use ipam_text::Seq;
 
 /// Opens the keeper's rows, and applies the resources.

@@ -9,9 +9,9 @@ use crate::status::Status;
 use crate::told_apply::tell_answer;
 use ipam_io::Sink;
 use ipam_keeper::Keeper;
-use ipam_kept::{Kept, MakesSteps, run_alone};
 use ipam_model::{Answer, Request};
 use ipam_resources::Resource;
+use ipam_shared::{Kept, MakesSteps, run_alone};
 use std::alloc::AllocError;
 
 /// What comes of one resource.

@@ -1,11 +1,11 @@
 //! What a command has to say, and how it ends.
 ghost use Rattle.std.specs.Prelude.{◌≡◌, ◌≢◌, ◌⊎◌, ℕ, List, IfOk, OnErr, string_bytes};
-ghost use Rattle.ipam_kept.specs.Broken.{broken_line};
+ghost use Rattle.ipam_shared.specs.Broken.{broken_line};
 ghost use Rattle.ipam_commands.specs.Telling.{FaultWrites, IsMade, IsSaid, Writes};
 
 use crate::status::Status;
 use ipam_io::Sink;
-use ipam_kept::{KeptFault, broken_line};
+use ipam_shared::{KeptFault, broken_line};
 use std::alloc::{AllocError, Global};
 
 /// Ends with this text and its status. That takes no memory.

@@ -6,8 +6,8 @@ ghost use Rattle.ipam_model.specs.declared.request.Request.TheVariants.{Admin as
 ghost use Rattle.ipam_model.specs.Alone.{alone_over};
 ghost use Rattle.ipam_model.specs.History.{Base};
 ghost use Rattle.ipam_model.specs.SoundRequest.{IsSoundRequest};
-ghost use Rattle.ipam_kept.specs.declared.kept.KeptFault.{KeptFault as Fault};
-ghost use Rattle.ipam_kept.specs.Solo.{HasNoGrace};
+ghost use Rattle.ipam_shared.specs.declared.kept.KeptFault.{KeptFault as Fault};
+ghost use Rattle.ipam_shared.specs.Solo.{HasNoGrace};
 ghost use Rattle.ipam_commands.specs.declared.outcome.ChangeOutcome.{ChangeOutcome as Outcome};
 ghost use Rattle.ipam_commands.specs.Changing.{ChangeEnds, ChangeWrites, IsChange, IsNotThere, unreserve_line};
 ghost use Rattle.ipam_commands.specs.Telling.{Writes};

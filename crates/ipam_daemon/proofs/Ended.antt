@@ -1,10 +1,10 @@
 -- How the daemon ends, and what its listener's count of faults comes to.
 use Rattle.std.proofs.Common.{◌≡◌, ◌⊎◌, ℕ, Some, None, refl, sym, subst}
-use Rattle.ipam_kept.specs.declared.kept.Kept.{Kept}
-use Rattle.ipam_kept.specs.declared.kept.KeptFault.{KeptFault}
-use Rattle.ipam_kept.specs.declared.kept.KeptFault.TheVariants.{Keeper, Refused, Memory}
-use Rattle.ipam_kept.specs.Kept.{Tells}
-use Rattle.ipam_kept.specs.Opening.{IsOpened}
+use Rattle.ipam_shared.specs.declared.kept.Kept.{Kept}
+use Rattle.ipam_shared.specs.declared.kept.KeptFault.{KeptFault}
+use Rattle.ipam_shared.specs.declared.kept.KeptFault.TheVariants.{Keeper, Refused, Memory}
+use Rattle.ipam_shared.specs.Kept.{Tells}
+use Rattle.ipam_shared.specs.Opening.{IsOpened}
 use Rattle.ipam_daemon.specs.declared.served.Served.{Served}
 use Rattle.ipam_daemon.specs.declared.served.Served.TheVariants.{KeeperFault, NoMemory, ListenFault}
 use Rattle.ipam_daemon.specs.Opening.{IsEnd, IsUnopened, end_of}

@@ -3,7 +3,7 @@ use Rattle.std.specs.Prelude.{◌≡◌, ◌⊎◌, ℕ, List, codes, Option, So
 use Rattle.std.specs.Io.KnownBytes.{append_known}
 use Rattle.ipam_io.specs.Counts.{Rose}
 use Rattle.ipam_io.specs.Streams.{AppendsPrefix}
-use Rattle.ipam_kept.specs.Broken.{broken_line}
+use Rattle.ipam_shared.specs.Broken.{broken_line}
 use Rattle.ipam_daemon.specs.declared.served.Served.{Served}
 use Rattle.ipam_daemon.specs.declared.served.Served.TheVariants.{KeeperFault, NoMemory, BrokenRows, ListenFault}
 

@@ -1,12 +1,12 @@
 //! The cluster is opened, and shared.
 ghost use Rattle.std.specs.Prelude.{◌≡◌, IfOk, IfErr};
-ghost use Rattle.ipam_kept.specs.Opening.{IsOpened};
+ghost use Rattle.ipam_shared.specs.Opening.{IsOpened};
 ghost use Rattle.ipam_shared.specs.Passes.{IsNewlyKept};
 ghost use Rattle.ipam_daemon.specs.Opening.{IsUnopened, end_of};
 
 use crate::served::Served;
-use ipam_kept::{Keeper, Kept, KeptFault, OpensKept};
 use ipam_serve::Opening;
+use ipam_shared::{Keeper, Kept, KeptFault, OpensKept};
 use ipam_text::Text;
 use std::alloc::{AllocError, Global};
 use std::random::RandomSource;

@@ -3,7 +3,7 @@ ghost use Rattle.std.specs.Prelude.{◌≡◌, ◌⊎◌, ℕ, List, IfOk, strin
 ghost use Rattle.ipam_daemon.specs.Served.{IsUntold, WritesServed, WritesLine};
 
 use ipam_io::Sink;
-use ipam_kept::broken_line;
+use ipam_shared::broken_line;
 use ipam_text::Text;
 use std::alloc::{AllocError, Global};
 

@@ -3,20 +3,20 @@ use std::alloc::{AllocError, Global};
 
 /// What is told so far. Where there was no memory for a piece, there is none for the whole.
 #[derive(Drop)]
-pub(crate) struct Told {
+pub struct Told {
     text: String,
     is_lost: bool,
 }
 
 impl Told {
-    pub(crate) fn new(alloc: Global) -> Told {
+    pub fn new(alloc: Global) -> Told {
         Told {
             text: String::new(alloc),
             is_lost: false,
         }
     }
 
-    pub(crate) fn push(&mut self, piece: Result<String, AllocError>) {
+    pub fn push(&mut self, piece: Result<String, AllocError>) {
         let is_pushed = match piece {
             Ok(piece) => self.text.push_str(piece.as_str()).is_ok(),
             Err(_) => false,
@@ -27,14 +27,14 @@ impl Told {
     }
 
     /// Appends the text as a line.
-    pub(crate) fn push_line(&mut self, line: &str) {
+    pub fn push_line(&mut self, line: &str) {
         let is_pushed = self.text.push_str(line).is_ok() && self.text.push_str("\n").is_ok();
         if !is_pushed {
             self.is_lost = true;
         }
     }
 
-    pub(crate) fn into_text(self) -> Result<String, AllocError> {
+    pub fn into_text(self) -> Result<String, AllocError> {
         let Told { text, is_lost } = self;
         if is_lost { Err(AllocError) } else { Ok(text) }
     }

@@ -121,7 +121,6 @@ impl Drop for CollectRequest {
 }
 
 /// A change of the pools, the reservations or the configuration.
-#[derive(Drop)]
 pub enum Admin {
     /// Appends a pool, or sets the rest of the one of this name, CIDR and size.
     Pool(Pool),
@@ -133,6 +132,19 @@ pub enum Admin {
     Unreserve(Text),
     /// Writes this configuration in place of the one that is there, if any.
     Config(Config),
+}
+
+// Written out, so that a drop of it is one call.
+impl Drop for Admin {
+    fn drop(self) {
+        match self {
+            Admin::Pool(_)
+            | Admin::Disable(_, _)
+            | Admin::Reserve(_)
+            | Admin::Unreserve(_)
+            | Admin::Config(_) => {}
+        }
+    }
 }
 
 /// What the allocator is asked.

@@ -1,7 +1,7 @@
 -- What is to come of a link.
 use Rattle.std.proofs.Common.{◌≡◌, ℕ, List, [], Option, ap, ◌∙◌, subst, Result}
 use Rattle.std.specs.Io.KnownBytes.{prepend_known}
-use Rattle.ipam_audit.specs.declared.report.Report.{Report}
+use Rattle.ipam_commands.specs.declared.audit_report.Report.{Report}
 use Rattle.ipam_operator.specs.declared.asking.AskFault.{AskFault}
 use Rattle.ipam_operator.specs.Asking.{Wire}
 use Rattle.ipam_operator.proofs.Wires.{wire, known-nil}

@@ -1,7 +1,7 @@
 -- The parts of what stands.
 use Rattle.std.proofs.Common.{◌≡◌}
 use Rattle.std.specs.List.{filter}
-use Rattle.ipam_audit.specs.declared.report.Report.{Report}
+use Rattle.ipam_commands.specs.declared.audit_report.Report.{Report}
 use Rattle.ipam_operator.specs.Standing.{has_affinity, has_excess, standing}
 
 pub standing_is : (first second report : Report) → report.excess ≡ filter (has_excess first.excess) second.excess

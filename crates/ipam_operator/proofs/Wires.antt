@@ -1,10 +1,11 @@
 -- What is to come of a link.
-use Rattle.std.proofs.Common.{◌≡◌, ℕ, List, [], Option, Some, None, refl, ap, ◌∙◌, subst, Ok}
+use Rattle.std.proofs.Common.{◌≡◌, ℕ, List, [], Option, Some, None, refl, ap, ◌∙◌, subst, Result, Ok}
 use Rattle.std.specs.Io.KnownBytes.{prepend_known}
 use Rattle.ipam_resources.specs.declared.resource.Resource.{Resource}
 use Rattle.ipam_resources.specs.Documents.{document_reading}
 use Rattle.ipam_operator.specs.declared.end.End.{End}
-use Rattle.ipam_operator.specs.Asking.{Comes, Wire}
+use Rattle.ipam_operator.specs.declared.asking.AskFault.{AskFault}
+use Rattle.ipam_operator.specs.Asking.{Asks, Comes, Wire}
 use Rattle.ipam_operator.specs.Applying.{DocumentEnds, Good, AskedOutside, AskedResourcesEnd}
 
 pub known-nil : (known : Option (List ℕ)) → prepend_known [] known ≡ known
@@ -46,3 +47,11 @@ pub good-anew : (document : List ℕ) (resources : List Resource) → document_r
 good-anew document resources is held none sent send_faults left read_faults written write_faults new last ends =
     Good resources is
     (subst (λ (o : AskedOutside). AskedResourcesEnd resources o new last) (outside-anew held none sent send_faults left read_faults written write_faults) ends)
+
+-- what came of a text, where nothing was held when it was sent
+pub asks-anew : {A : Type 0} (reading : List ℕ → Option A) (text : List ℕ) (came : Result A AskFault) (held : List ℕ) → held ≡ []
+    → (sent : Option (List ℕ)) (send_faults : ℕ) (left : Option (List ℕ)) (read_faults : ℕ) (new : Wire)
+    → Asks reading text came (wire sent send_faults (prepend_known held left) read_faults) new → Asks reading text came (wire sent send_faults left read_faults) new
+asks-anew reading text came held none sent send_faults left read_faults new asks =
+    subst (λ (w : Wire). Asks reading text came w new)
+    (ap (λ (h : List ℕ). wire sent send_faults (prepend_known h left) read_faults) none ∙ wire-anew sent send_faults left read_faults) asks

@@ -2,8 +2,8 @@
 use Rattle.std.specs.Prelude.{◌≡◌, List, [], ◌∷◌, Option, Some, None, option_map, Result, Ok, Err}
 use Rattle.ipam_operator.specs.Rows.{AsksRows}
 use Rattle.ipam_operator.specs.Datastore.{datastore_of}
-use Rattle.ipam_audit.specs.declared.report.Report.{Report}
-use Rattle.ipam_audit.specs.Reported.{report_of}
+use Rattle.ipam_commands.specs.declared.audit_report.Report.{Report}
+use Rattle.ipam_commands.specs.Reported.{report_of}
 use Rattle.ipam_operator.specs.declared.asking.AskFault.{AskFault}
 use Rattle.ipam_operator.specs.declared.asking.AskFault.TheVariants as fault
 use Rattle.ipam_operator.specs.Asking.{Wire}

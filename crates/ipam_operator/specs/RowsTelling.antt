@@ -1,7 +1,7 @@
 -- What an audit over a daemon writes.
 use Rattle.std.specs.Prelude.{ℕ, List, Result, Ok, Err}
-use Rattle.ipam_audit.specs.declared.report.Report.{Report}
-use Rattle.ipam_audit.specs.Printed.{report_text}
+use Rattle.ipam_commands.specs.declared.audit_report.Report.{Report}
+use Rattle.ipam_commands.specs.Printed.{report_text}
 use Rattle.ipam_operator.specs.declared.asking.AskFault.{AskFault}
 use Rattle.ipam_operator.specs.declared.asking.AskFault.TheVariants as fault
 use Rattle.ipam_operator.specs.declared.end.End.{End}

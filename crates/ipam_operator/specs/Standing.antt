@@ -2,8 +2,8 @@
 use Rattle.std.specs.Prelude.{ℕ, ◌==◌, ◌&&◌, Bool, List, bytes_eq}
 use Rattle.std.specs.List.{filter, list_any}
 use Rattle.ipam_addr.specs.Shape.{CidrValue}
-use Rattle.ipam_audit.specs.declared.report.Excess.{Excess}
-use Rattle.ipam_audit.specs.declared.report.Report.{Report}
+use Rattle.ipam_commands.specs.declared.audit_report.Excess.{Excess}
+use Rattle.ipam_commands.specs.declared.audit_report.Report.{Report}
 use Rattle.ipam_model.specs.Usable.{is_same_cidr}
 
 -- the same handle and block, with the same count, of which as much is owned

@@ -1,7 +1,7 @@
 //! `audit N`: what stands in two looks is told.
 ghost use Rattle.std.specs.Prelude.{◌≡◌, ◌≤◌, ◌<◌, ℕ, List, Result};
 ghost use Rattle.std.specs.Io.KnownBytes.{prepend_known};
-ghost use Rattle.ipam_audit.specs.declared.report.Report.{Report as LeftOver};
+ghost use Rattle.ipam_commands.specs.declared.audit_report.Report.{Report as LeftOver};
 ghost use Rattle.ipam_operator.specs.declared.asking.AskFault.{AskFault as Fault};
 ghost use Rattle.ipam_operator.specs.Telling.{Says};
 ghost use Rattle.ipam_words.specs.declared.reading.TheConstants.{MOST_WORKERS};
@@ -11,7 +11,7 @@ ghost use Rattle.ipam_operator.specs.RowsTelling.{ReportTakesMemory, audit_end, 
 use crate::end::End;
 use crate::looking::look_twice;
 use crate::telling::{tell_fault, tell_made};
-use ipam_audit::report_text;
+use ipam_commands::report_text;
 use ipam_io::{Link, Sink};
 use std::alloc::Global;
 use std::thread::Threads;

@@ -11,7 +11,7 @@ use crate::asking::{AskFault, REPLY_BYTES};
 use crate::datastore::datastore_of;
 use crate::paging::ask_kinds;
 use crate::standing::standing;
-use ipam_audit::{Report, report_on};
+use ipam_commands::{Report, report_on};
 use ipam_io::{Lines, Link};
 use ipam_records::Row;
 use ipam_store::Store;

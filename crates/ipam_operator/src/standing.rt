@@ -5,7 +5,7 @@ ghost use Rattle.ipam_model.specs.Usable.{is_same_cidr};
 ghost use Rattle.ipam_operator.specs.Standing.{has_affinity, has_excess, is_same_affinity, is_same_excess, standing};
 
 use ipam_addr::Cidr;
-use ipam_audit::{Excess, Report};
+use ipam_commands::{Excess, Report};
 use ipam_text::{Seq, Text};
 
 /// The second report, with those of its counts and affinities alone that the first one has too.

@@ -1,5 +1,5 @@
 /// Why a text is not read.
-#[derive(Clone, Copy, Debug, PartialEq, Eq)]
+#[derive(Clone, Copy)]
 pub enum AskFault {
     /// No text of this kind has this form.
     Unreadable,

@@ -1,8 +1,8 @@
 //! What the members of a request's objects hold.
-ghost use Rattle.std.specs.Prelude.{◌≡◌, [], ◌∷◌, ◌++◌, IfOk, option_map};
-ghost use Rattle.serde_json.specs.View.{view, items_view, members_view};
+ghost use Rattle.std.specs.Prelude.{◌≡◌, [], IfOk, option_map};
+ghost use Rattle.serde_json.specs.View.{view, items_view};
 ghost use Rattle.ipam_record_text.specs.Reservations.{cidrs_after};
-ghost use Rattle.ipam_request_text.specs.Fields.{truth_or, whole_or_0, number_in, number_or_0, small_at, texts_after, texts_in, texts_or_none, pairs_after, pairs_in, pairs_or_none, address_in, addresses_after, cidr_member, mode_named, mode_in, mode_or, selector_in, selector_or, named_scope, scope_in, scope_or};
+ghost use Rattle.ipam_request_text.specs.Fields.{truth_or, whole_or_0, number_or_0, small_at, texts_in, texts_or_none, pairs_in, pairs_or_none, address_in, addresses_after, cidr_member, mode_or, selector_or, named_scope, scope_or};
 
 use crate::shape::{Shape, are_known};
 use ipam_addr::{Addr, Cidr, read_addr};
@@ -11,7 +11,7 @@ use ipam_pool::Mode;
 use ipam_record_text::{cidr_in, selector_of};
 use ipam_select::NodeSelector;
 use ipam_text::{Seq, Text};
-use serde_json::{Map, Value};
+use serde_json::Value;
 use std::alloc::{AllocError, Global};
 
 /// The `true` or `false` of this name, or what a request has without it.
@@ -39,15 +39,9 @@ pub(crate) fn number_or_0(value: &Value, name: &str) -> Option<u32>
     ensures { result ≡ number_or_0 name.now (view value.now) }
 {
     match value.get(name) {
-        Some(found) => number_in(found),
+        Some(found) => in_32_bits(found.as_u64()?),
         None => Some(0),
     }
-}
-
-fn number_in(value: &Value) -> Option<u32>
-    ensures { result ≡ number_in (view value.now) }
-{
-    in_32_bits(value.as_u64()?)
 }
 
 /// The whole number of this name, where 8 bits hold it.
@@ -61,15 +55,10 @@ pub(crate) fn small_at(value: &Value, name: &str) -> Option<u8>
 pub(crate) fn texts_in(alloc: Global, value: &Value) -> Result<Option<Seq<Text>>, AllocError>
     ensures { IfOk result (λ found. found ≡ texts_in (view value.now)) }
 {
-    match value.as_array() {
-        Some(items) => texts_of(alloc, items.as_slice()),
-        None => Ok(None),
-    }
-}
-
-fn texts_of(alloc: Global, items: &[Value]) -> Result<Option<Seq<Text>>, AllocError>
-    ensures { IfOk result (λ found. found ≡ texts_after [] (items_view items.now)) }
-{
+    let Some(list) = value.as_array() else {
+        return Ok(None);
+    };
+    let items = list.as_slice();
     let mut texts = Vec::new(alloc);
     for item in items {
         let Some(text) = item.as_str() else {
@@ -98,19 +87,9 @@ pub(crate) fn texts_or_none(
 pub fn pairs_in(alloc: Global, value: &Value) -> Result<Option<Seq<(Text, Text)>>, AllocError>
     ensures { IfOk result (λ found. found ≡ pairs_in (view value.now)) }
 {
-    match value.as_object() {
-        Some(members) => pairs_of(alloc, members),
-        None => Ok(None),
-    }
-}
-
-fn pairs_of(
-    alloc: Global,
-    members: &Map<String, Value>,
-) -> Result<Option<Seq<(Text, Text)>>, AllocError>
-    ensures { IfOk result
-        (λ found. found ≡ pairs_after [] (members_view members.now.entries)) }
-{
+    let Some(members) = value.as_object() else {
+        return Ok(None);
+    };
     let mut pairs = Vec::new(alloc);
     for (key, member) in members {
         let Some(value) = member.as_str() else {
@@ -192,22 +171,10 @@ pub(crate) fn cidrs_of(alloc: Global, items: &[Value]) -> Result<Option<Seq<Cidr
 pub(crate) fn mode_or(value: &Value) -> Option<Mode>
     ensures { result ≡ mode_or (view value.now) }
 {
-    match value.get("mode") {
-        Some(found) => mode_in(found),
-        None => Some(Mode::Automatic),
-    }
-}
-
-fn mode_in(value: &Value) -> Option<Mode>
-    ensures { result ≡ mode_in (view value.now) }
-{
-    let text = value.as_str()?;
-    mode_named(text)
-}
-
-fn mode_named(text: &str) -> Option<Mode>
-    ensures { result ≡ mode_named text.now }
-{
+    let Some(found) = value.get("mode") else {
+        return Some(Mode::Automatic);
+    };
+    let text = found.as_str()?;
     if text == "Automatic" {
         Some(Mode::Automatic)
     } else if text == "Manual" {
@@ -221,16 +188,10 @@ fn mode_named(text: &str) -> Option<Mode>
 pub(crate) fn selector_or(alloc: Global, value: &Value) -> Result<Option<NodeSelector>, AllocError>
     ensures { IfOk result (λ found. found ≡ selector_or (view value.now)) }
 {
-    match value.get("selector") {
-        Some(found) => selector_in(alloc, found),
-        None => Ok(Some(NodeSelector::all(alloc))),
-    }
-}
-
-fn selector_in(alloc: Global, value: &Value) -> Result<Option<NodeSelector>, AllocError>
-    ensures { IfOk result (λ found. found ≡ selector_in (view value.now)) }
-{
-    match value.as_str() {
+    let Some(found) = value.get("selector") else {
+        return Ok(Some(NodeSelector::all(alloc)));
+    };
+    match found.as_str() {
         Some(text) => selector_of(alloc, text),
         None => Ok(None),
     }
@@ -243,16 +204,10 @@ pub(crate) fn scope_or(
 ) -> Result<Option<Option<(Text, Text)>>, AllocError>
     ensures { IfOk result (λ found. found ≡ scope_or (view value.now)) }
 {
-    match value.get("scope") {
-        Some(found) => scope_in(alloc, found),
-        None => Ok(Some(None)),
-    }
-}
-
-fn scope_in(alloc: Global, value: &Value) -> Result<Option<Option<(Text, Text)>>, AllocError>
-    ensures { IfOk result (λ found. found ≡ scope_in (view value.now)) }
-{
-    match named_scope(value) {
+    let Some(found) = value.get("scope") else {
+        return Ok(Some(None));
+    };
+    match named_scope(found) {
         Some((network, node)) => Ok(Some(Some(pair_of(alloc, network, node)?))),
         None => Ok(None),
     }

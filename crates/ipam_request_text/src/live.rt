@@ -1,9 +1,9 @@
 //! Lists of live handles are read.
-ghost use Rattle.std.specs.Prelude.{◌≡◌, [], Err, Some, None, IfOk, IfSome, option_map};
+ghost use Rattle.std.specs.Prelude.{◌≡◌, Err, Some, None, IfOk, IfSome, option_map};
 ghost use Rattle.std.specs.List.{AllByRecursion};
-ghost use Rattle.serde_json.specs.View.{view, items_view};
+ghost use Rattle.serde_json.specs.View.{view};
 ghost use Rattle.ipam_records.specs.Sound.{IsHandleId};
-ghost use Rattle.ipam_request_text.specs.Live.{live_reading, live_in, ids_after, live_id_in};
+ghost use Rattle.ipam_request_text.specs.Live.{live_reading, live_in, live_id_in};
 
 use crate::fault::AskFault;
 use ipam_json::json_of;
@@ -13,49 +13,34 @@ use serde_json::Value;
 use std::alloc::{AllocError, Global};
 
 /// The handles that the text lists: a JSON array of their ids, repeats allowed, in any spelling.
+#[tactic(auto, unfolding(crate::specs::Live::live_reading))]
 pub fn read_live(alloc: Global, text: &str) -> Result<Seq<Text>, AskFault>
     ensures read { IfOk result (λ live. live_reading text.now ≡ Some live) }
     ensures unreadable { result ≡ Err AskFault.Unreadable → live_reading text.now ≡ None }
 {
-    match live_found(alloc, text) {
+    let Ok(read) = json_of(alloc, text) else {
+        return Err(AskFault::Memory);
+    };
+    let Some(json) = read else {
+        return Err(AskFault::Unreadable);
+    };
+    match live_in_json(alloc, &json) {
         Ok(Some(live)) => Ok(live),
         Ok(None) => Err(AskFault::Unreadable),
         Err(_) => Err(AskFault::Memory),
     }
 }
 
-#[tactic(auto, unfolding(crate::specs::Live::live_reading))]
-fn live_found(alloc: Global, text: &str) -> Result<Option<Seq<Text>>, AllocError>
-    ensures { IfOk result (λ found. found ≡ live_reading text.now) }
-{
-    let Some(json) = json_of(alloc, text)? else {
-        return Ok(None);
-    };
-    live_in_json(alloc, &json)
-}
-
 /// The handles that this JSON lists. The list of a text is that of its JSON.
-#[tactic(auto, using(crate::proofs::Lives::live_in_sound))]
+#[tactic(auto, using(crate::proofs::Lives::live_in_sound), unfolding(crate::specs::Live::live_in))]
 pub fn live_in_json(alloc: Global, json: &Value) -> Result<Option<Seq<Text>>, AllocError>
     ensures read { IfOk result (λ found. found ≡ live_in (view json.now)) }
     ensures sound { IfOk result (λ found. IfSome found (AllByRecursion IsHandleId)) }
 {
-    live_in(alloc, json)
-}
-
-#[tactic(auto, unfolding(crate::specs::Live::live_in))]
-fn live_in(alloc: Global, json: &Value) -> Result<Option<Seq<Text>>, AllocError>
-    ensures { IfOk result (λ found. found ≡ live_in (view json.now)) }
-{
-    match json.as_array() {
-        Some(items) => ids_in(alloc, items.as_slice()),
-        None => Ok(None),
-    }
-}
-
-fn ids_in(alloc: Global, items: &[Value]) -> Result<Option<Seq<Text>>, AllocError>
-    ensures { IfOk result (λ found. found ≡ ids_after [] (items_view items.now)) }
-{
+    let Some(list) = json.as_array() else {
+        return Ok(None);
+    };
+    let items = list.as_slice();
     let mut ids = Vec::new(alloc);
     for item in items {
         let Some(id) = id_in(item) else {

@@ -1,11 +1,12 @@
 //! Members that stand in a request's object only where they are not what a request has without them.
 ghost use Rattle.std.specs.Prelude.{◌≡◌, OnOk};
-ghost use Rattle.serde_json.specs.View.{view, members_view};
+ghost use Rattle.serde_json.specs.View.{members_view};
 ghost use Rattle.ipam_request_text.specs.Members.{where_true, where_false, where_some_number, where_some_texts, where_some_pairs, where_manual, where_selective, where_scope};
 
-use crate::parts::{pairs_value, scope_value, selector_value, texts_value};
+use crate::parts::{pairs_value, texts_value};
+use ipam_json::two_members;
 use ipam_pool::Mode;
-use ipam_select::NodeSelector;
+use ipam_select::{NodeSelector, push_selector};
 use ipam_text::Text;
 use serde_json::{Map, Value, put};
 use std::alloc::{AllocError, Global};
@@ -124,8 +125,9 @@ pub(crate) fn put_selector(
     if selector.is_all() {
         return Ok(());
     }
-    let value = selector_value(alloc, selector)?;
-    put(members, alloc, "selector", value)
+    let mut text = String::new(alloc);
+    push_selector(&mut text, selector.selector())?;
+    put(members, alloc, "selector", Value::String(text))
 }
 
 /// Puts the scope, where there is one.
@@ -140,7 +142,9 @@ pub(crate) fn put_scope(
     match scope {
         None => Ok(()),
         Some(scope) => {
-            let value = scope_value(alloc, scope)?;
+            let network = Value::try_from_str(alloc, scope.0.as_str())?;
+            let node = Value::try_from_str(alloc, scope.1.as_str())?;
+            let value = two_members(alloc, "network", network, "node", node)?;
             put(members, alloc, "scope", value)
         }
     }

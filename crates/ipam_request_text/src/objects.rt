@@ -1,8 +1,7 @@
 //! The requests that objects of each shape hold, sound or not.
-ghost use Rattle.std.specs.Prelude.{◌≡◌, codes, IfOk};
-ghost use Rattle.serde_json.specs.Find.{get};
+ghost use Rattle.std.specs.Prelude.{◌≡◌, IfOk};
 ghost use Rattle.serde_json.specs.View.{view};
-ghost use Rattle.ipam_request_text.specs.Reading.{probe_in, add_like_probe, add_in, asked_in, any_add_in, check_in, release_in, collect_in, one_pool_in, disable_in, reserve_in, settings_in, shaped_in};
+ghost use Rattle.ipam_request_text.specs.Reading.{probe_in, add_in, any_add_in, check_in, release_in, disable_in, reserve_in, shaped_in};
 
 use crate::fields::{
     address_in, addresses_of, cidr_at, cidrs_of, mode_or, number_or_0, pairs_or_none, scope_or,
@@ -31,37 +30,31 @@ pub(crate) fn shaped_in(
         Shape::Del => del_in(alloc, value),
         Shape::Check => check_in(alloc, value),
         Shape::Release => release_in(alloc, value),
-        Shape::Collect => asked_collect_in(alloc, value),
+        Shape::Collect => collect_in(alloc, value),
         Shape::Probe => asked_probe_in(alloc, value),
-        Shape::Pool => pool_change_in(alloc, value),
+        Shape::Pool => pool_in(alloc, value),
         Shape::Disable => disable_in(alloc, value),
         Shape::Reserve => reserve_in(alloc, value),
         Shape::Unreserve => unreserve_in(alloc, value),
-        Shape::Config => Ok(config_change_in(value)),
+        Shape::Config => Ok(config_in(value)),
         Shape::Scope => Ok(None),
     }
 }
 
+/// The ADD of the address that the object asks for, or of any where it asks for none.
 #[tactic(auto, unfolding(crate::specs::Reading::any_add_in))]
 fn any_add_in(alloc: Global, value: &Value) -> Result<Option<Request>, AllocError>
     ensures { IfOk result (λ found. found ≡ any_add_in (view value.now)) }
 {
-    match add_in(alloc, value)? {
-        Some(add) => Ok(asked_in(add, value)),
+    let Some(add) = add_in(alloc, value)? else {
+        return Ok(None);
+    };
+    let Some(asked) = value.get("address") else {
+        return Ok(Some(Request::Add(add)));
+    };
+    match address_in(asked) {
+        Some(address) => Ok(Some(Request::AddThis(add, address))),
         None => Ok(None),
-    }
-}
-
-/// The ADD of the address that the object asks for, or of any where it asks for none.
-fn asked_in(add: AddRequest, value: &Value) -> Option<Request>
-    ensures { result ≡ asked_in add (get (codes "address") (view value.now)) }
-{
-    match value.get("address") {
-        None => Some(Request::Add(add)),
-        Some(asked) => match address_in(asked) {
-            Some(address) => Some(Request::AddThis(add, address)),
-            None => None,
-        },
     }
 }
 
@@ -79,13 +72,6 @@ fn add_in(alloc: Global, value: &Value) -> Result<Option<AddRequest>, AllocError
         return Ok(None);
     };
     let handle = Text::copied(alloc, handle)?;
-    Ok(Some(add_of(probe, handle, secondary)))
-}
-
-/// What an ADD asks beside what a probe asks.
-fn add_of(probe: ProbeRequest, handle: Text, secondary: Seq<(Text, Text)>) -> AddRequest
-    ensures { result ≡ add_like_probe probe handle secondary }
-{
     let ProbeRequest {
         node,
         labels,
@@ -94,16 +80,15 @@ fn add_of(probe: ProbeRequest, handle: Text, secondary: Seq<(Text, Text)>) -> Ad
         pools4,
         pools6,
     } = probe;
-    let attributes = Attributes { handle, secondary };
-    AddRequest {
+    Ok(Some(AddRequest {
         node,
-        attributes,
+        attributes: Attributes { handle, secondary },
         ipv4,
         ipv6,
         labels,
         pools4,
         pools6,
-    }
+    }))
 }
 
 fn asked_probe_in(alloc: Global, value: &Value) -> Result<Option<Request>, AllocError>
@@ -188,18 +173,9 @@ fn release_in(alloc: Global, value: &Value) -> Result<Option<Request>, AllocErro
     Ok(Some(Request::Release(node, cidr)))
 }
 
-fn asked_collect_in(alloc: Global, value: &Value) -> Result<Option<Request>, AllocError>
-    ensures { IfOk result (λ found. found ≡ shaped_in Shape.Collect (view value.now)) }
-{
-    match collect_in(alloc, value)? {
-        Some(collect) => Ok(Some(Request::Collect(collect))),
-        None => Ok(None),
-    }
-}
-
 #[tactic(auto, unfolding(crate::specs::Reading::collect_in))]
-fn collect_in(alloc: Global, value: &Value) -> Result<Option<CollectRequest>, AllocError>
-    ensures { IfOk result (λ found. found ≡ collect_in (view value.now)) }
+fn collect_in(alloc: Global, value: &Value) -> Result<Option<Request>, AllocError>
+    ensures { IfOk result (λ found. found ≡ shaped_in Shape.Collect (view value.now)) }
 {
     let Some(at) = whole_or_0(value, "at") else {
         return Ok(None);
@@ -216,26 +192,17 @@ fn collect_in(alloc: Global, value: &Value) -> Result<Option<CollectRequest>, Al
     let Some(scope) = scope_or(alloc, value)? else {
         return Ok(None);
     };
-    Ok(Some(CollectRequest {
+    Ok(Some(Request::Collect(CollectRequest {
         live,
         at,
         grace,
         scope,
-    }))
-}
-
-fn pool_change_in(alloc: Global, value: &Value) -> Result<Option<Request>, AllocError>
-    ensures { IfOk result (λ found. found ≡ shaped_in Shape.Pool (view value.now)) }
-{
-    match pool_in(alloc, value)? {
-        Some(pool) => Ok(Some(Request::Admin(Admin::Pool(pool)))),
-        None => Ok(None),
-    }
+    })))
 }
 
 #[tactic(auto, unfolding(crate::specs::Reading::one_pool_in))]
-fn pool_in(alloc: Global, value: &Value) -> Result<Option<Pool>, AllocError>
-    ensures { IfOk result (λ found. found ≡ one_pool_in (view value.now)) }
+fn pool_in(alloc: Global, value: &Value) -> Result<Option<Request>, AllocError>
+    ensures { IfOk result (λ found. found ≡ shaped_in Shape.Pool (view value.now)) }
 {
     let Some(cidr) = cidr_at(value, "cidr") else {
         return Ok(None);
@@ -256,14 +223,14 @@ fn pool_in(alloc: Global, value: &Value) -> Result<Option<Pool>, AllocError>
         return Ok(None);
     };
     let name = Text::copied(alloc, name)?;
-    Ok(Some(Pool {
+    Ok(Some(Request::Admin(Admin::Pool(Pool {
         name,
         cidr,
         size,
         disabled,
         mode,
         selector,
-    }))
+    }))))
 }
 
 #[tactic(auto, unfolding(crate::specs::Reading::disable_in))]
@@ -312,25 +279,16 @@ fn unreserve_in(alloc: Global, value: &Value) -> Result<Option<Request>, AllocEr
     }
 }
 
-fn config_change_in(value: &Value) -> Option<Request>
-    ensures { result ≡ shaped_in Shape.Config (view value.now) }
-{
-    match config_in(value) {
-        Some(config) => Some(Request::Admin(Admin::Config(config))),
-        None => None,
-    }
-}
-
 #[tactic(auto, unfolding(crate::specs::Reading::settings_in))]
-fn config_in(value: &Value) -> Option<Config>
-    ensures { result ≡ settings_in (view value.now) }
+fn config_in(value: &Value) -> Option<Request>
+    ensures { result ≡ shaped_in Shape.Config (view value.now) }
 {
     let auto = truth_or(value, "autoAllocateBlocks", true)?;
     let max_blocks = number_or_0(value, "maxBlocksPerHost")?;
     let strict = truth_or(value, "strictAffinity", false)?;
-    Some(Config {
+    Some(Request::Admin(Admin::Config(Config {
         strict,
         auto,
         max_blocks,
-    })
+    })))
 }

@@ -1,16 +1,10 @@
 //! The JSON of what requests are made of.
-ghost use Rattle.std.specs.Prelude.{◌≡◌, map, fold, IfOk, string_bytes};
-ghost use Rattle.serde_json.specs.Data.{string};
-ghost use Rattle.serde_json.specs.View.{view, members_view};
-ghost use Rattle.ipam_json.specs.Built.{array_of};
-ghost use Rattle.ipam_select.specs.Printing.{printed};
-ghost use Rattle.ipam_block_text.specs.Body.{with_pair};
+ghost use Rattle.std.specs.Prelude.{◌≡◌, IfOk};
+ghost use Rattle.serde_json.specs.View.{view};
 ghost use Rattle.ipam_record_text.specs.Reservations.{cidr_data};
-ghost use Rattle.ipam_request_text.specs.Parts.{texts_data, pairs_data, addresses_data, address_data, cidrs_data, scope_data, selector_data};
+ghost use Rattle.ipam_request_text.specs.Parts.{texts_data, pairs_data, addresses_data, address_data, cidrs_data};
 
 use ipam_addr::{Addr, Cidr, push_addr, push_cidr};
-use ipam_json::two_members;
-use ipam_select::{NodeSelector, push_selector};
 use ipam_text::Text;
 use serde_json::{Map, Value, put};
 use std::alloc::{AllocError, Global};
@@ -70,20 +64,4 @@ pub(crate) fn cidrs_value(alloc: Global, cidrs: &[Cidr]) -> Result<Value, AllocE
         list.push(cidr_value(alloc, *cidr)?)?;
     }
     Ok(Value::Array(list))
-}
-
-pub(crate) fn scope_value(alloc: Global, scope: &(Text, Text)) -> Result<Value, AllocError>
-    ensures { IfOk result (λ v. view v ≡ scope_data scope.now) }
-{
-    let network = Value::try_from_str(alloc, scope.0.as_str())?;
-    let node = Value::try_from_str(alloc, scope.1.as_str())?;
-    two_members(alloc, "network", network, "node", node)
-}
-
-pub(crate) fn selector_value(alloc: Global, selector: &NodeSelector) -> Result<Value, AllocError>
-    ensures { IfOk result (λ v. view v ≡ selector_data selector.now) }
-{
-    let mut text = String::new(alloc);
-    push_selector(&mut text, selector.selector())?;
-    Ok(Value::String(text))
 }

@@ -2,11 +2,11 @@
 ghost use Rattle.std.specs.Prelude.{◌≡◌, [], Err, Some, None, IfOk, IfSome};
 ghost use Rattle.serde_json.specs.View.{view};
 ghost use Rattle.ipam_model.specs.SoundRequest.{IsSoundRequest};
-ghost use Rattle.ipam_request_text.specs.Reading.{known_in, named_in, request_in_data, sound_request_in, request_reading, request_of_bytes};
+ghost use Rattle.ipam_request_text.specs.Reading.{request_in_data, sound_request_in, request_reading, request_of_bytes};
 
 use crate::fault::AskFault;
 use crate::objects::shaped_in;
-use crate::shape::{Shape, are_known, shape_named};
+use crate::shape::{are_known, shape_named};
 use crate::sound::is_sound;
 use ipam_json::{json_of, only_member};
 use ipam_model::Request;
@@ -31,27 +31,23 @@ pub fn read_request(alloc: Global, text: &[u8]) -> Result<Request, AskFault>
 }
 
 /// The same of a text that is known to be UTF-8.
+#[tactic(auto, unfolding(crate::specs::Reading::request_reading))]
 pub fn read_request_text(alloc: Global, text: &str) -> Result<Request, AskFault>
     ensures read { IfOk result (λ request. request_reading text.now ≡ Some request) }
     ensures unreadable { result ≡ Err AskFault.Unreadable → request_reading text.now ≡ None }
     ensures sound { IfOk result IsSoundRequest }
 {
-    match request_found(alloc, text) {
+    let Ok(read) = json_of(alloc, text) else {
+        return Err(AskFault::Memory);
+    };
+    let Some(json) = read else {
+        return Err(AskFault::Unreadable);
+    };
+    match request_in_json(alloc, &json) {
         Ok(Some(request)) => Ok(request),
         Ok(None) => Err(AskFault::Unreadable),
         Err(_) => Err(AskFault::Memory),
     }
-}
-
-#[tactic(auto, unfolding(crate::specs::Reading::request_reading, crate::specs::Reading::sound_request_in))]
-fn request_found(alloc: Global, text: &str) -> Result<Option<Request>, AllocError>
-    ensures read { IfOk result (λ found. found ≡ request_reading text.now) }
-    ensures sound { IfOk result (λ found. IfSome found IsSoundRequest) }
-{
-    let Some(json) = json_of(alloc, text)? else {
-        return Ok(None);
-    };
-    request_in_json(alloc, &json)
 }
 
 /// The request that this JSON holds, where it is sound. The request of a text is that of its JSON.
@@ -71,7 +67,7 @@ pub fn request_in_json(alloc: Global, json: &Value) -> Result<Option<Request>, A
 }
 
 /// The request that the JSON holds, sound or not.
-#[tactic(auto, unfolding(crate::specs::Reading::request_in_data))]
+#[tactic(auto, unfolding(crate::specs::Reading::request_in_data, crate::specs::Reading::named_in, crate::specs::Reading::known_in))]
 fn request_in(alloc: Global, json: &Value) -> Result<Option<Request>, AllocError>
     ensures { IfOk result (λ found. found ≡ request_in_data (view json.now)) }
 {
@@ -81,23 +77,9 @@ fn request_in(alloc: Global, json: &Value) -> Result<Option<Request>, AllocError
     let Some((name, value)) = only_member(members) else {
         return Ok(None);
     };
-    named_in(alloc, name, value)
-}
-
-#[tactic(auto, unfolding(crate::specs::Reading::named_in))]
-fn named_in(alloc: Global, name: &str, value: &Value) -> Result<Option<Request>, AllocError>
-    ensures { IfOk result (λ found. found ≡ named_in name.now (view value.now)) }
-{
-    match shape_named(name) {
-        Some(shape) => known_in(alloc, shape, value),
-        None => Ok(None),
-    }
-}
-
-#[tactic(auto, unfolding(crate::specs::Reading::known_in))]
-fn known_in(alloc: Global, shape: Shape, value: &Value) -> Result<Option<Request>, AllocError>
-    ensures { IfOk result (λ found. found ≡ known_in shape (view value.now)) }
-{
+    let Some(shape) = shape_named(name) else {
+        return Ok(None);
+    };
     let Some(members) = value.as_object() else {
         return Ok(None);
     };

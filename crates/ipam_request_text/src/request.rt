@@ -1,17 +1,18 @@
-ghost use Rattle.std.specs.Prelude.{◌≡◌, ◌++◌, [], ◌∷◌, codes, IfOk, OnOk, OnErr, string_bytes};
-ghost use Rattle.serde_json.specs.Data.{object};
+ghost use Rattle.std.specs.Prelude.{◌≡◌, ◌++◌, IfOk, OnOk, OnErr, string_bytes};
+ghost use Rattle.serde_json.specs.Data.{object, string, no_members, put};
 ghost use Rattle.serde_json.specs.View.{view, members_view};
+ghost use Rattle.ipam_json.specs.Built.{tagged};
 ghost use Rattle.ipam_request_text.specs.Members.{with_text, wishes};
-ghost use Rattle.ipam_request_text.specs.Requests.{add_members, add_data, add_this_data, del_data, check_data, release_data, collect_data, probe_data, one_pool_data, disable_data, reserve_data, unreserve_data, settings_data, change_data, request_data, request_text, live_text};
+ghost use Rattle.ipam_request_text.specs.Requests.{add_members, add_this_data, collect_data, probe_data, one_pool_data, settings_data, change_data, request_data, request_text, live_text};
 
 use crate::members::{
     put_false, put_mode, put_number, put_pairs, put_scope, put_selector, put_texts, put_true,
 };
 use crate::parts::{address_value, addresses_value, cidr_value, cidrs_value, texts_value};
-use ipam_addr::{Addr, Cidr};
+use ipam_addr::Addr;
 use ipam_json::{tagged, two_members};
 use ipam_model::{AddRequest, Admin, CollectRequest, ProbeRequest, Request};
-use ipam_pool::{Pool, Reservation};
+use ipam_pool::Pool;
 use ipam_records::Config;
 use ipam_text::Text;
 use serde_json::{Map, Value, put};
@@ -55,11 +56,24 @@ fn request_value(alloc: Global, request: &Request) -> Result<Value, AllocError>
     ensures { IfOk result (λ v. view v ≡ request_data request.now) }
 {
     match request {
-        Request::Add(add) => add_value(alloc, add),
+        Request::Add(add) => tagged(alloc, "add", Value::Object(add_members(alloc, add)?)),
         Request::AddThis(add, address) => add_this_value(alloc, add, *address),
-        Request::Del(id) => del_value(alloc, id),
-        Request::Check(id, addresses) => check_value(alloc, id, addresses.as_slice()),
-        Request::Release(node, cidr) => release_value(alloc, node, *cidr),
+        Request::Del(id) => one_text(alloc, "del", "handle", id),
+        Request::Check(id, addresses) => {
+            let addresses = addresses_value(alloc, addresses.as_slice())?;
+            value_and_text(
+                alloc,
+                "check",
+                "addresses",
+                addresses,
+                "handle",
+                id.as_str(),
+            )
+        }
+        Request::Release(node, cidr) => {
+            let cidr = cidr_value(alloc, *cidr)?;
+            value_and_text(alloc, "release", "cidr", cidr, "node", node.as_str())
+        }
         Request::Collect(collect) => collect_value(alloc, collect),
         Request::Admin(change) => change_value(alloc, change),
         Request::Probe(probe) => probe_value(alloc, probe),
@@ -71,11 +85,51 @@ fn change_value(alloc: Global, change: &Admin) -> Result<Value, AllocError>
 {
     match change {
         Admin::Pool(pool) => pool_value(alloc, pool),
-        Admin::Disable(name, disabled) => disable_value(alloc, name, *disabled),
-        Admin::Reserve(reservation) => reserve_value(alloc, reservation),
-        Admin::Unreserve(name) => unreserve_value(alloc, name),
+        Admin::Disable(name, disabled) => {
+            let disabled = Value::Bool(*disabled);
+            value_and_text(
+                alloc,
+                "disable",
+                "disabled",
+                disabled,
+                "name",
+                name.as_str(),
+            )
+        }
+        Admin::Reserve(reservation) => {
+            let cidrs = cidrs_value(alloc, reservation.cidrs())?;
+            value_and_text(alloc, "reserve", "cidrs", cidrs, "name", reservation.name())
+        }
+        Admin::Unreserve(name) => one_text(alloc, "unreserve", "name", name),
         Admin::Config(config) => config_value(alloc, config),
     }
+}
+
+/// The object of this name that holds one text.
+fn one_text(alloc: Global, tag: &str, name: &str, text: &Text) -> Result<Value, AllocError>
+    ensures { IfOk result
+        (λ v. view v ≡ tagged tag.now (tagged name.now (string text.now))) }
+{
+    let value = Value::try_from_str(alloc, text.as_str())?;
+    let inner = tagged(alloc, name, value)?;
+    tagged(alloc, tag, inner)
+}
+
+/// The object of this name that holds a value and a text.
+fn value_and_text(
+    alloc: Global,
+    tag: &str,
+    first: &str,
+    value: Value,
+    second: &str,
+    text: &str,
+) -> Result<Value, AllocError>
+    ensures { IfOk result (λ v. view v ≡ tagged tag.now (object
+        (put second.now (string text.now) (put first.now (view value) no_members)))) }
+{
+    let text = Value::try_from_str(alloc, text)?;
+    let inner = two_members(alloc, first, value, second, text)?;
+    tagged(alloc, tag, inner)
 }
 
 fn put_text(
@@ -129,13 +183,6 @@ fn add_members(alloc: Global, add: &AddRequest) -> Result<Map<String, Value>, Al
     Ok(members)
 }
 
-fn add_value(alloc: Global, add: &AddRequest) -> Result<Value, AllocError>
-    ensures { IfOk result (λ v. view v ≡ add_data add.now) }
-{
-    let members = add_members(alloc, add)?;
-    tagged(alloc, "add", Value::Object(members))
-}
-
 fn add_this_value(alloc: Global, add: &AddRequest, address: Addr) -> Result<Value, AllocError>
     ensures { IfOk result (λ v. view v ≡ add_this_data add.now address) }
 {
@@ -143,32 +190,6 @@ fn add_this_value(alloc: Global, add: &AddRequest, address: Addr) -> Result<Valu
     let address = address_value(alloc, address)?;
     put(&mut members, alloc, "address", address)?;
     tagged(alloc, "add", Value::Object(members))
-}
-
-fn del_value(alloc: Global, id: &Text) -> Result<Value, AllocError>
-    ensures { IfOk result (λ v. view v ≡ del_data id.now) }
-{
-    let handle = Value::try_from_str(alloc, id.as_str())?;
-    let inner = tagged(alloc, "handle", handle)?;
-    tagged(alloc, "del", inner)
-}
-
-fn check_value(alloc: Global, id: &Text, addresses: &[Addr]) -> Result<Value, AllocError>
-    ensures { IfOk result (λ v. view v ≡ check_data id.now addresses.now) }
-{
-    let addresses = addresses_value(alloc, addresses)?;
-    let handle = Value::try_from_str(alloc, id.as_str())?;
-    let inner = two_members(alloc, "addresses", addresses, "handle", handle)?;
-    tagged(alloc, "check", inner)
-}
-
-fn release_value(alloc: Global, node: &Text, cidr: Cidr) -> Result<Value, AllocError>
-    ensures { IfOk result (λ v. view v ≡ release_data node.now cidr) }
-{
-    let cidr = cidr_value(alloc, cidr)?;
-    let node = Value::try_from_str(alloc, node.as_str())?;
-    let inner = two_members(alloc, "cidr", cidr, "node", node)?;
-    tagged(alloc, "release", inner)
 }
 
 #[tactic(auto, unfolding(crate::specs::Requests::collect_members))]
@@ -211,31 +232,6 @@ fn pool_value(alloc: Global, pool: &Pool) -> Result<Value, AllocError>
     put_mode(alloc, &mut members, pool.mode)?;
     put_selector(alloc, &mut members, &pool.selector)?;
     tagged(alloc, "pool", Value::Object(members))
-}
-
-fn disable_value(alloc: Global, name: &Text, disabled: bool) -> Result<Value, AllocError>
-    ensures { IfOk result (λ v. view v ≡ disable_data name.now disabled) }
-{
-    let name = Value::try_from_str(alloc, name.as_str())?;
-    let inner = two_members(alloc, "disabled", Value::Bool(disabled), "name", name)?;
-    tagged(alloc, "disable", inner)
-}
-
-fn reserve_value(alloc: Global, reservation: &Reservation) -> Result<Value, AllocError>
-    ensures { IfOk result (λ v. view v ≡ reserve_data reservation.now) }
-{
-    let cidrs = cidrs_value(alloc, reservation.cidrs())?;
-    let name = Value::try_from_str(alloc, reservation.name())?;
-    let inner = two_members(alloc, "cidrs", cidrs, "name", name)?;
-    tagged(alloc, "reserve", inner)
-}
-
-fn unreserve_value(alloc: Global, name: &Text) -> Result<Value, AllocError>
-    ensures { IfOk result (λ v. view v ≡ unreserve_data name.now) }
-{
-    let name = Value::try_from_str(alloc, name.as_str())?;
-    let inner = tagged(alloc, "name", name)?;
-    tagged(alloc, "unreserve", inner)
 }
 
 #[tactic(auto, unfolding(crate::specs::Requests::config_members))]

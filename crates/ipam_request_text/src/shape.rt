@@ -1,7 +1,7 @@
 //! Which members each object of a request may have.
 ghost use Rattle.std.specs.Prelude.{◌≡◌, ◌||◌, bytes_eq};
 ghost use Rattle.serde_json.specs.View.{members_view};
-ghost use Rattle.ipam_request_text.specs.Shapes.{in_probe, in_add, in_collect, in_pool, in_config, may_have, are_known, change_named, shape_named};
+ghost use Rattle.ipam_request_text.specs.Shapes.{in_probe, in_add, in_pool, may_have, are_known, change_named, shape_named};
 
 use serde_json::{Map, Value};
 
@@ -95,13 +95,16 @@ fn may_have(shape: Shape, name: &str) -> bool
         Shape::Del => name == "handle",
         Shape::Check => is_either(name, "addresses", "handle"),
         Shape::Release => is_either(name, "cidr", "node"),
-        Shape::Collect => in_collect(name),
+        Shape::Collect => matches!(name, "at" | "grace" | "live" | "scope"),
         Shape::Probe => in_probe(name),
         Shape::Pool => in_pool(name),
         Shape::Disable => is_either(name, "disabled", "name"),
         Shape::Reserve => is_either(name, "cidrs", "name"),
         Shape::Unreserve => name == "name",
-        Shape::Config => in_config(name),
+        Shape::Config => matches!(
+            name,
+            "autoAllocateBlocks" | "maxBlocksPerHost" | "strictAffinity"
+        ),
         Shape::Scope => is_either(name, "network", "node"),
     }
 }
@@ -127,26 +130,11 @@ fn in_add(name: &str) -> bool
     in_probe(name) || matches!(name, "address" | "handle" | "secondary")
 }
 
-fn in_collect(name: &str) -> bool
-    ensures { result ≡ in_collect name.now }
-{
-    matches!(name, "at" | "grace" | "live" | "scope")
-}
-
 fn in_pool(name: &str) -> bool
     ensures { result ≡ in_pool name.now }
 {
     matches!(
         name,
         "cidr" | "disabled" | "mode" | "name" | "selector" | "size"
-    )
-}
-
-fn in_config(name: &str) -> bool
-    ensures { result ≡ in_config name.now }
-{
-    matches!(
-        name,
-        "autoAllocateBlocks" | "maxBlocksPerHost" | "strictAffinity"
     )
 }

@@ -10,9 +10,9 @@ use Rattle.ipam_model.specs.declared.request.Request.{Request}
 use Rattle.ipam_model.specs.CanAnswer.{CanAnswer}
 use Rattle.ipam_model.specs.Cluster.{state_of}
 use Rattle.ipam_model.specs.History.{Lawful}
-use Rattle.ipam_kept.specs.declared.kept.Kept.{Kept}
-use Rattle.ipam_kept.specs.Giving.{Gives}
-use Rattle.ipam_kept.specs.Turning.{IsDone, IsFailed}
+use Rattle.ipam_shared.specs.declared.kept.Kept.{Kept}
+use Rattle.ipam_shared.specs.Giving.{Gives}
+use Rattle.ipam_shared.specs.KeptTurning.{IsDone, IsFailed}
 use Rattle.ipam_shared.specs.declared.faults.SharedFault.{SharedFault}
 use Rattle.ipam_shared.specs.declared.faults.SharedFault.TheVariants.{Inner, SpentPass}
 use Rattle.ipam_shared.specs.declared.faults.SpentPass.{SpentPass as Spent}

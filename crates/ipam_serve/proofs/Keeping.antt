@@ -14,10 +14,10 @@ use Rattle.ipam_model.specs.declared.request.Request.TheVariants.{Del}
 use Rattle.ipam_model.specs.Answered.{Answered}
 use Rattle.ipam_model.specs.History.{Base, Lawful, slot_of_entry}
 use Rattle.ipam_laws.proofs.Fates.{faults as fault_law}
-use Rattle.ipam_kept.specs.Giving.{Gives}
-use Rattle.ipam_kept.specs.declared.kept.Kept.{Kept}
-use Rattle.ipam_kept.specs.Kept.{KeptFor, Tells}
-use Rattle.ipam_kept.specs.Turning.{IsDone, IsFailed}
+use Rattle.ipam_shared.specs.Giving.{Gives}
+use Rattle.ipam_shared.specs.declared.kept.Kept.{Kept}
+use Rattle.ipam_shared.specs.Kept.{KeptFor, Tells}
+use Rattle.ipam_shared.specs.KeptTurning.{IsDone, IsFailed}
 use Rattle.ipam_shared.specs.PassValue.{PassValue}
 use Rattle.ipam_shared.specs.Passes.{IsSamePass}
 use Rattle.ipam_shared.specs.Turning.{SeesNext, WasDone, met}

@@ -4,8 +4,8 @@ use Rattle.std.specs.Prelude.{IfOk, OnOk, OnErr, option_map}
 use Rattle.ipam_io.specs.Readings.{prepend_known_readings}
 use Rattle.cni_types.specs.declared.version.Version as versions
 use Rattle.cni_types.specs.Reading.{Pair}
-use Rattle.ipam_kept.specs.Giving.{Gives}
-use Rattle.ipam_kept.specs.Kept.{Tells}
+use Rattle.ipam_shared.specs.Giving.{Gives}
+use Rattle.ipam_shared.specs.Kept.{Tells}
 use Rattle.ipam_model.specs.declared.answer.Answer.{Answer}
 use Rattle.ipam_model.specs.declared.entry.Entry.TheVariants as entry
 use Rattle.ipam_model.specs.declared.request.Request.{Request}

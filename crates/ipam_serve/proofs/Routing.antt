@@ -7,11 +7,11 @@ use Rattle.ipam_records.specs.declared.key.Key.{Key}
 use Rattle.ipam_words.specs.declared.kind.RowKind.{RowKind}
 use Rattle.ipam_session.specs.declared.page.Page.{Page}
 use Rattle.ipam_show.specs.declared.usage.PoolUsage.{PoolUsage}
-use Rattle.ipam_feed.specs.declared.route.Route.{Route}
-use Rattle.ipam_feed.specs.declared.change.Change.{Change}
-use Rattle.ipam_feed.specs.declared.fault.SinceFault.{SinceFault}
-use Rattle.ipam_feed.specs.declared.fault.SinceFault.TheVariants as fault_of
-use Rattle.ipam_kept.specs.Feed.{AreChanges, AreRoutes, IsAhead, IsCompacted, floor_in}
+use Rattle.ipam_store.specs.declared.route.Route.{Route}
+use Rattle.ipam_store.specs.declared.change.Change.{Change}
+use Rattle.ipam_store.specs.declared.feed_fault.SinceFault.{SinceFault}
+use Rattle.ipam_store.specs.declared.feed_fault.SinceFault.TheVariants as fault_of
+use Rattle.ipam_shared.specs.Feed.{AreChanges, AreRoutes, IsAhead, IsCompacted, floor_in}
 use Rattle.ipam_session.specs.declared.replies.Reply.TheVariants as reply
 use Rattle.ipam_session.specs.declared.route.Since.{Since}
 use Rattle.ipam_session.specs.declared.route.Since.TheVariants.{Ahead, Changes, Compacted}

@@ -4,8 +4,8 @@ use Rattle.std.specs.Prelude.{IfErr, OnErr}
 use Rattle.ipam_io.specs.Streams.{AppendsPrefix}
 use Rattle.ipam_keeper.specs.declared.keeper.KeepFault.{KeepFault}
 use Rattle.ipam_keeper.specs.declared.keeper.KeepFault.TheVariants.{Failed, Memory}
-use Rattle.ipam_kept.specs.Giving.{Gives}
-use Rattle.ipam_kept.specs.Kept.{Tells}
+use Rattle.ipam_shared.specs.Giving.{Gives}
+use Rattle.ipam_shared.specs.Kept.{Tells}
 use Rattle.ipam_model.specs.declared.entry.Entry.{Entry}
 use Rattle.ipam_session.specs.declared.replies.Reply.{Reply}
 use Rattle.ipam_session.specs.Replies.{reply_line}

@@ -1,8 +1,8 @@
 -- What comes of what runs, all in one.
 use Rattle.std.specs.Prelude.{◌≡◌, ℕ, true, [], Option, Some, None, Result, IsSome, IfOk, IfSome, OnOk, OnErr, option_map}
 use Rattle.ipam_io.specs.Counts.{next_count}
-use Rattle.ipam_kept.specs.Giving.{Gives}
-use Rattle.ipam_kept.specs.Kept.{Tells}
+use Rattle.ipam_shared.specs.Giving.{Gives}
+use Rattle.ipam_shared.specs.Kept.{Tells}
 use Rattle.ipam_model.specs.declared.answer.Answer.{Answer}
 use Rattle.ipam_model.specs.declared.request.Request.{Request}
 use Rattle.ipam_model.specs.CanAnswer.{CanAnswer}

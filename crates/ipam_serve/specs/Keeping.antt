@@ -6,10 +6,10 @@ use Rattle.ipam_model.specs.declared.entry.Called.{Called as OneCall}
 use Rattle.ipam_model.specs.declared.entry.Entry.{Entry}
 use Rattle.ipam_model.specs.declared.entry.Entry.TheVariants as entry
 use Rattle.ipam_model.specs.History.{Base, slot_of_entry}
-use Rattle.ipam_kept.specs.declared.kept.Kept.{Kept}
-use Rattle.ipam_kept.specs.Giving.{Gives}
-use Rattle.ipam_kept.specs.Kept.{KeptFor, Tells}
-use Rattle.ipam_kept.specs.Turning.{IsDone, IsFailed}
+use Rattle.ipam_shared.specs.declared.kept.Kept.{Kept}
+use Rattle.ipam_shared.specs.Giving.{Gives}
+use Rattle.ipam_shared.specs.Kept.{KeptFor, Tells}
+use Rattle.ipam_shared.specs.KeptTurning.{IsDone, IsFailed}
 use Rattle.ipam_shared.specs.PassValue.{PassValue}
 use Rattle.ipam_shared.specs.Passes.{IsSamePass}
 use Rattle.ipam_shared.specs.Settling.{FailsToSettle, FindsNoMemory, WasSettled}

@@ -9,9 +9,9 @@ use Rattle.ipam_words.specs.declared.kind.RowKind.{RowKind}
 use Rattle.ipam_session.specs.declared.page.Page.{Page}
 use Rattle.ipam_session.specs.Page.{page_in}
 use Rattle.ipam_show.specs.Usage.{pools_usage}
-use Rattle.ipam_feed.specs.Feed.{changes_since}
-use Rattle.ipam_feed.specs.Route.{routes_in}
-use Rattle.ipam_kept.specs.Feed.{floor_in, writes_in}
+use Rattle.ipam_store.specs.Feed.{changes_since}
+use Rattle.ipam_store.specs.Route.{routes_in}
+use Rattle.ipam_shared.specs.Feed.{floor_in, writes_in}
 use Rattle.ipam_model.specs.Cluster.{RunningRequest}
 use Rattle.ipam_model.specs.History.{moment_of, store_at}
 use Rattle.ipam_session.specs.declared.call.CallBegun.{CallBegun}

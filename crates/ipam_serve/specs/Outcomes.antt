@@ -1,8 +1,8 @@
 -- What comes of a wish, all in one.
 use Rattle.std.specs.Prelude.{ℕ, Option, Result, IfOk, OnOk, OnErr, ◌≡◌, None}
 use Rattle.cni_types.specs.declared.version.Version.{Version}
-use Rattle.ipam_kept.specs.Giving.{Gives}
-use Rattle.ipam_kept.specs.Kept.{Tells}
+use Rattle.ipam_shared.specs.Giving.{Gives}
+use Rattle.ipam_shared.specs.Kept.{Tells}
 use Rattle.ipam_model.specs.declared.request.Request.{Request}
 use Rattle.ipam_session.specs.declared.replies.Reply.{Reply}
 use Rattle.ipam_session.specs.declared.wish.Wish.{Wish}

@@ -6,8 +6,8 @@ use Rattle.ipam_model.specs.declared.entry.Entry.{Entry}
 use Rattle.ipam_model.specs.declared.entry.Entry.TheVariants as entry
 use Rattle.ipam_model.specs.declared.request.Request.{Request}
 use Rattle.ipam_model.specs.CanAnswer.{CanAnswer}
-use Rattle.ipam_feed.specs.declared.fault.SinceFault.{SinceFault}
-use Rattle.ipam_feed.specs.declared.fault.SinceFault.TheVariants as fault_of
+use Rattle.ipam_store.specs.declared.feed_fault.SinceFault.{SinceFault}
+use Rattle.ipam_store.specs.declared.feed_fault.SinceFault.TheVariants as fault_of
 use Rattle.ipam_session.specs.declared.route.Since.{Since}
 use Rattle.ipam_session.specs.declared.route.Since.TheVariants.{Ahead, Compacted}
 use Rattle.ipam_shared.specs.declared.faults.SharedFault.{SharedFault}

@@ -7,8 +7,8 @@ use Rattle.ipam_answer_text.proofs.Floats.{has_float-answer_data}
 use Rattle.ipam_records.specs.declared.record.Record.{Record}
 use Rattle.ipam_session.specs.declared.page.Page.{Page}
 use Rattle.ipam_show.specs.declared.usage.PoolUsage.{PoolUsage}
-use Rattle.ipam_feed.specs.declared.route.Route.{Route as OneRoute}
-use Rattle.ipam_feed.specs.declared.change.Change.{Change}
+use Rattle.ipam_store.specs.declared.route.Route.{Route as OneRoute}
+use Rattle.ipam_store.specs.declared.change.Change.{Change}
 use Rattle.ipam_session.specs.declared.route.Since.{Since}
 use Rattle.ipam_session.specs.declared.route.Since.TheVariants.{Changes, Compacted, Ahead}
 use Rattle.ipam_session.specs.declared.replies.Reply.{Reply}

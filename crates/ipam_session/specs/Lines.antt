@@ -15,7 +15,7 @@ use Rattle.ipam_records.specs.declared.key.Key.{Key}
 use Rattle.ipam_words.specs.declared.kind.RowKind.{RowKind}
 use Rattle.ipam_session.specs.declared.page.Page.{Page}
 use Rattle.ipam_show.specs.declared.usage.PoolUsage.{PoolUsage}
-use Rattle.ipam_feed.specs.declared.route.Route.{Route as OneRoute}
+use Rattle.ipam_store.specs.declared.route.Route.{Route as OneRoute}
 use Rattle.ipam_session.specs.declared.route.Since.{Since}
 use Rattle.ipam_session.specs.declared.wish.Wish.{Wish}
 use Rattle.ipam_session.specs.declared.wish.Wish.TheVariants as wish

@@ -1,13 +1,13 @@
 //! CNI calls of a session, from what they begin to the reply.
 ghost use Rattle.std.specs.Prelude.{◌≡◌, IsTrue, IfOk, Some};
 ghost use Rattle.ipam_model.specs.CanAnswer.{CanAnswer};
-ghost use Rattle.cni_types.specs.Sound.{IsSoundLook, IsSoundGc, IsSoundStatus};
+ghost use Rattle.cni_types.specs.Sound.{IsSoundLook};
 ghost use Rattle.cni_types.specs.Texts.{error_text};
 ghost use Rattle.cni_asks.specs.Asking.{is_neither_gc_nor_status};
 ghost use Rattle.ipam_session.specs.Calls.{ask_of_call, begun_of, begun_at, call_begun, IsSoundBegun, IsOfCall, is_of_call, call_reply_told};
 
 use cni_asks::{Ask, ask, gc, gc_reply, reply, status, status_reply};
-use cni_types::{CniError, CniGc, CniStatus, Look, LookFault, Version, look, push_error};
+use cni_types::{CniError, Look, LookFault, Version, look, push_error};
 use ipam_model::{Answer, Request};
 use ipam_text::Text;
 use std::alloc::{AllocError, Global};
@@ -23,19 +23,11 @@ pub enum CallBegun {
 
 /// What a CNI call begins, with this environment and this standard input. A request that it begins
 /// is sound.
-#[tactic(auto, using(crate::proofs::Asked::begun_of_call))]
+#[tactic(auto, using(crate::proofs::Asked::begun_of_call), unfolding(crate::specs::Calls::call_begun))]
 pub fn begin_call(alloc: Global, env: &[(Text, Text)], stdin: &str) -> Result<CallBegun, AllocError>
     ensures begun { IfOk result (λ begun. call_begun env.now stdin.now ≡ Some begun) }
     ensures sound { IfOk result IsSoundBegun }
     ensures of_call { IfOk result IsOfCall }
-{
-    begin_found(alloc, env, stdin)
-}
-
-#[tactic(auto, unfolding(crate::specs::Calls::call_begun))]
-fn begin_found(alloc: Global, env: &[(Text, Text)], stdin: &str) -> Result<CallBegun, AllocError>
-    ensures begun { IfOk result (λ begun. call_begun env.now stdin.now ≡ Some begun) }
-    ensures sound { IfOk result IsSoundBegun }
 {
     match look(alloc, env, stdin.as_bytes()) {
         Ok(found) => begin_look(alloc, found),
@@ -57,8 +49,14 @@ fn begin_look(alloc: Global, found: Look) -> Result<CallBegun, AllocError>
     ensures sound { IsSoundLook found → IfOk result IsSoundBegun }
 {
     match found {
-        Look::Gc(call) => begin_gc(&call),
-        Look::Status(call) => begin_status(&call),
+        Look::Gc(call) => {
+            let collect = gc(&call)?;
+            Ok(CallBegun::Runs(Request::Collect(collect), call.version))
+        }
+        Look::Status(call) => {
+            let probe = status(&call)?;
+            Ok(CallBegun::Runs(Request::Probe(probe), call.version))
+        }
         _ => begin_ask(alloc, found),
     }
 }
@@ -73,22 +71,6 @@ fn begin_ask(alloc: Global, found: Look) -> Result<CallBegun, AllocError>
         Ask::Tell(text) => Ok(CallBegun::Told(0, text)),
         Ask::Begin(request, version) => Ok(CallBegun::Runs(request, version)),
     }
-}
-
-fn begin_gc(call: &CniGc) -> Result<CallBegun, AllocError>
-    ensures begun { IfOk result (λ begun. begun_at (Ok (Look.Gc call.now)) ≡ Some begun) }
-    ensures sound { IsSoundGc call.now → IfOk result IsSoundBegun }
-{
-    let collect = gc(call)?;
-    Ok(CallBegun::Runs(Request::Collect(collect), call.version))
-}
-
-fn begin_status(call: &CniStatus) -> Result<CallBegun, AllocError>
-    ensures begun { IfOk result (λ begun. begun_at (Ok (Look.Status call.now)) ≡ Some begun) }
-    ensures sound { IsSoundStatus call.now → IfOk result IsSoundBegun }
-{
-    let probe = status(call)?;
-    Ok(CallBegun::Runs(Request::Probe(probe), call.version))
 }
 
 /// The status and the text of the reply to a call whose request came to this answer.

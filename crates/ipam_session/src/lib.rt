@@ -13,9 +13,9 @@ mod taken;
 mod wish;
 
 pub use call::{CallBegun, begin_call, tell_call};
-pub use ipam_feed::{Change, Route};
 pub use ipam_request_text::AskFault;
 pub use ipam_show::PoolUsage;
+pub use ipam_store::{Change, Route};
 pub use ipam_words::RowKind;
 pub use page::{Page, page_of};
 pub use reading::read_wish;

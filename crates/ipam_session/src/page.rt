@@ -1,10 +1,10 @@
 //! A page of rows.
-ghost use Rattle.std.specs.Prelude.{◌≡◌, All, IfOk, option_map};
-ghost use Rattle.ipam_records.specs.Datastore.{row_of, rows_of_kind};
+ghost use Rattle.std.specs.Prelude.{◌≡◌, All, IfOk};
+ghost use Rattle.ipam_records.specs.Datastore.{rows_of_kind};
 ghost use Rattle.ipam_records.specs.Pages.{rows_of_pages};
 ghost use Rattle.ipam_store.specs.Page.{IsPage};
 ghost use Rattle.ipam_store.specs.Places.{Ascend};
-ghost use Rattle.ipam_session.specs.Page.{IsFrontPage, first_taken, one_kept, page_in, page_with, rows_kept, so_far, taken_from};
+ghost use Rattle.ipam_session.specs.Page.{IsFrontPage, first_taken, one_kept, page_in, rows_kept, so_far, taken_from};
 
 use crate::places::pages_from;
 use crate::taken::{Taken, take_pages, take_row};
@@ -35,34 +35,17 @@ pub fn page_of(
     ensures exact { IfOk result (λ page. page ≡ page_in store.now.store kind after.now) }
     ensures front { IfOk result (λ page. IsFrontPage store.now.store kind after.now page) }
 {
-    page_in(alloc, store, kind, after)
-}
-
-fn page_in(
-    alloc: Global,
-    store: &Store,
-    kind: RowKind,
-    after: &Option<Key>,
-) -> Result<Page, AllocError>
-    ensures { IfOk result (λ page. page ≡ page_in store.now.store kind after.now) }
-{
     let taken = taken_of(alloc, store, kind, after)?;
-    Ok(page_with(store, taken))
-}
-
-fn page_with(store: &Store, taken: Taken) -> Page
-    ensures { result ≡ page_with store.now.store.counter (so_far taken) }
-{
     let Taken {
         rows,
         room: _,
         more,
     } = taken;
-    Page {
+    Ok(Page {
         revision: store.counter(),
         rows: Seq::of(rows),
         more,
-    }
+    })
 }
 
 fn taken_of(
@@ -93,22 +76,12 @@ fn one_taken(
     ensures { IfOk result (λ taken. so_far taken ≡ taken_from after.now first_taken (one_kept key store.now.store)) }
 {
     let mut taken = Taken::first(alloc);
-    match row_kept(store, key) {
-        Some((revision, found)) => {
+    match store.reply(&Call::Get(key)) {
+        Reply::Found(revision, found) => {
             take_row(&mut taken, after, revision, found)?;
             Ok(taken)
         }
-        None => Ok(taken),
-    }
-}
-
-/// The row of the key.
-fn row_kept(store: &Store, key: Key) -> Option<(u64, &Record)>
-    ensures { option_map (λ row. (row.0, row.1.now)) result ≡ row_of key store.now.store.rows }
-{
-    match store.reply(&Call::Get(key)) {
-        Reply::Found(revision, found) => Some((revision, found)),
-        _ => None,
+        _ => Ok(taken),
     }
 }
 

@@ -18,18 +18,9 @@ pub(crate) fn pages_from<'a>(
     ensures { (taken : SoFar) → taken_from after.now taken (rows_of_pages result.now) ≡ taken_from after.now taken (rows_of_pages pages.now) }
 {
     match after {
-        Some(key) => pages_after(pages, key),
+        Some(key) => &pages[page_for(pages, &KeyRef::of(key))..],
         None => pages,
     }
-}
-
-fn pages_after<'a>(pages: &'a [Vec<(u64, Record)>], key: &Key) -> &'a [Vec<(u64, Record)>]
-    requires ascend { Ascend (rows_of_pages pages.now) }
-    requires filled { All IsPage pages.now }
-    ensures { (taken : SoFar) → taken_from (Some key.now) taken (rows_of_pages result.now) ≡ taken_from (Some key.now) taken (rows_of_pages pages.now) }
-{
-    let first = page_for(pages, &KeyRef::of(key));
-    &pages[first..]
 }
 
 /// How many of the first pages have no row after the key, but for one.

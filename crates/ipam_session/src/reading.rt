@@ -1,10 +1,8 @@
 //! Lines are read.
-ghost use Rattle.std.specs.Prelude.{◌≡◌, Err, Some, None, IfOk, IfSome, option_map};
-ghost use Rattle.std.specs.Str.{is_utf8};
+ghost use Rattle.std.specs.Prelude.{◌≡◌, Err, Some, None, IfOk, IfSome};
 ghost use Rattle.serde_json.specs.View.{view, members_view};
 ghost use Rattle.ipam_json.specs.Members.{only_if};
-ghost use Rattle.ipam_request_text.specs.Live.{live_in};
-ghost use Rattle.ipam_session.specs.Wishes.{says_time, request_wish, is_true, rows_wish, short_wish, named_wish, in_page, are_of_page, page_wish, parts_wish, in_call, are_of_call, call_wish, wish_of_members, wish_in, wish_of_line, IsSoundWish};
+ghost use Rattle.ipam_session.specs.Wishes.{says_time, request_wish, is_true, rows_wish, short_wish, named_wish, are_of_page, page_wish, are_of_call, call_wish, wish_of_members, wish_in, wish_of_line, IsSoundWish};
 
 use crate::wish::Wish;
 use ipam_json::{json_of, only_member, text_at};
@@ -31,12 +29,12 @@ pub fn read_wish(alloc: Global, line: &[u8]) -> Result<Wish, AskFault>
     }
 }
 
-#[tactic(auto, unfolding(crate::specs::Wishes::wish_of_line))]
+#[tactic(auto, unfolding(crate::specs::Wishes::wish_of_line), using(crate::proofs::Utf8::text_told, crate::proofs::Utf8::no_text_told))]
 fn wish_of_line(alloc: Global, line: &[u8]) -> Result<Option<Wish>, AllocError>
     ensures read { IfOk result (λ found. found ≡ wish_of_line line.now) }
     ensures sound { IfOk result (λ found. IfSome found IsSoundWish) }
 {
-    let Some(text) = text_of(line) else {
+    let Ok(text) = str::from_utf8(line) else {
         return Ok(None);
     };
     match json_of(alloc, text)? {
@@ -45,14 +43,7 @@ fn wish_of_line(alloc: Global, line: &[u8]) -> Result<Option<Wish>, AllocError>
     }
 }
 
-/// The line as a text, where it is UTF-8.
-#[tactic(auto, using(crate::proofs::Utf8::text_told, crate::proofs::Utf8::no_text_told))]
-fn text_of(line: &[u8]) -> Option<&str>
-    ensures { option_map (λ t. t.now) result ≡ only_if (is_utf8 line.now) line.now }
-{
-    str::from_utf8(line).ok()
-}
-
+/// One member asks by its name, and several ask for a page or a call.
 #[tactic(auto, unfolding(crate::specs::Wishes::wish_in))]
 fn wish_in(alloc: Global, json: &Value) -> Result<Option<Wish>, AllocError>
     ensures read { IfOk result (λ found. found ≡ wish_in (view json.now)) }
@@ -61,9 +52,13 @@ fn wish_in(alloc: Global, json: &Value) -> Result<Option<Wish>, AllocError>
     let Some(members) = json.as_object() else {
         return Ok(None);
     };
-    match only_member(members) {
-        Some((name, value)) => named_wish(alloc, name, value),
-        None => parts_wish(alloc, json),
+    if let Some((name, value)) = only_member(members) {
+        return named_wish(alloc, name, value);
+    }
+    if json.get("rows").is_some() {
+        page_wish(alloc, json)
+    } else {
+        call_wish(alloc, json)
     }
 }
 
@@ -75,7 +70,7 @@ fn named_wish(alloc: Global, name: &str, value: &Value) -> Result<Option<Wish>, 
     if name == "request" {
         request_wish(alloc, value)
     } else if name == "feed" {
-        feed_wish(alloc, value)
+        Ok(live_in_json(alloc, value)?.map(Wish::Feed))
     } else {
         Ok(short_wish(name, value))
     }
@@ -102,16 +97,6 @@ fn says_time(value: &Value) -> bool
     match value.get("collect") {
         Some(collect) => collect.get("at").is_some(),
         None => false,
-    }
-}
-
-fn feed_wish(alloc: Global, value: &Value) -> Result<Option<Wish>, AllocError>
-    ensures read { IfOk result (λ found. found ≡ option_map Wish.Feed (live_in (view value.now))) }
-    ensures sound { IfOk result (λ found. IfSome found IsSoundWish) }
-{
-    match live_in_json(alloc, value)? {
-        Some(live) => Ok(Some(Wish::Feed(live))),
-        None => Ok(None),
     }
 }
 
@@ -163,18 +148,6 @@ fn where_true(value: &Value, wish: Wish) -> Option<Wish>
     }
 }
 
-/// What several members ask.
-fn parts_wish(alloc: Global, json: &Value) -> Result<Option<Wish>, AllocError>
-    ensures read { IfOk result (λ found. found ≡ parts_wish (view json.now)) }
-    ensures sound { IfOk result (λ found. IfSome found IsSoundWish) }
-{
-    if json.get("rows").is_some() {
-        page_wish(alloc, json)
-    } else {
-        call_wish(alloc, json)
-    }
-}
-
 #[tactic(auto, unfolding(crate::specs::Wishes::page_wish))]
 fn page_wish(alloc: Global, json: &Value) -> Result<Option<Wish>, AllocError>
     ensures read { IfOk result (λ found. found ≡ page_wish (view json.now)) }
@@ -209,17 +182,11 @@ fn are_of_page(members: &Map<String, Value>) -> bool
     ensures { result ≡ are_of_page (members_view members.now.entries) }
 {
     for (name, _) in members {
-        if !in_page(name.as_str()) {
+        if name.as_str() != "rows" && name.as_str() != "after" {
             return false;
         }
     }
     true
-}
-
-fn in_page(name: &str) -> bool
-    ensures { result ≡ in_page name.now }
-{
-    name == "rows" || name == "after"
 }
 
 #[tactic(auto, unfolding(crate::specs::Wishes::call_wish))]
@@ -251,15 +218,9 @@ fn are_of_call(members: &Map<String, Value>) -> bool
     ensures { result ≡ are_of_call (members_view members.now.entries) }
 {
     for (name, _) in members {
-        if !in_call(name.as_str()) {
+        if name.as_str() != "env" && name.as_str() != "stdin" {
             return false;
         }
     }
     true
-}
-
-fn in_call(name: &str) -> bool
-    ensures { result ≡ in_call name.now }
-{
-    name == "env" || name == "stdin"
 }

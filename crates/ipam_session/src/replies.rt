@@ -3,9 +3,7 @@ ghost use Rattle.std.specs.Prelude.{◌≡◌, ◌++◌, [], map, codes, IfOk, O
 ghost use Rattle.serde_json.specs.Data.{put, string};
 ghost use Rattle.serde_json.specs.View.{members_view, view};
 ghost use Rattle.ipam_addr.specs.Text.{cidr_text_of};
-ghost use Rattle.ipam_json.specs.Built.{array_of, members_from};
-ghost use Rattle.ipam_records.specs.Key.{key_of};
-ghost use Rattle.ipam_records.specs.KeyText.{key_bytes};
+ghost use Rattle.ipam_json.specs.Built.{array_of, members_from, tagged};
 ghost use Rattle.ipam_session.specs.Replies.{call_reply_data, call_text, route_data, route_change_data, routes_data, changes_data, since_data, row_data, page_data, pool_usage_data, usage_data, reply_data, reply_line, with_more};
 
 use crate::page::Page;
@@ -13,11 +11,11 @@ use crate::refusal::Refusal;
 use crate::route::Since;
 use ipam_addr::Cidr;
 use ipam_answer_text::{answer_value, cidr_string};
-use ipam_feed::{Change, Route};
 use ipam_json::{tagged, two_members};
 use ipam_model::Answer;
 use ipam_records::{Record, key_text, to_text};
 use ipam_show::PoolUsage;
+use ipam_store::{Change, Route};
 use ipam_text::{Seq, Text};
 use serde_json::{Map, Value, put};
 use std::alloc::{AllocError, Global};
@@ -48,16 +46,20 @@ pub enum Reply {
 }
 
 /// Appends the line of the reply, which ends by its line feed.
+#[tactic(auto, unfolding(crate::specs::Replies::reply_line), using(crate::proofs::NoFloats::reply_without))]
 pub fn push_reply(alloc: Global, out: &mut String, reply: &Reply) -> Result<(), AllocError>
     ensures ok { OnOk result (string_bytes out.new ≡ string_bytes out.old ++ reply_line reply.now) }
     ensures err { OnErr result (string_bytes out.new ≡ string_bytes out.old) }
 {
-    let line = reply_string(alloc, reply)?;
+    let json = reply_value(alloc, reply)?;
+    let mut line = json.to_string(alloc)?;
+    line.push_str("\n")?;
     out.push_str(line.as_str())
 }
 
 /// Appends the JSON of what a CNI call ends with, its status and its standard output, without a
 /// line feed.
+#[tactic(auto, unfolding(crate::specs::Replies::call_text), using(crate::proofs::NoFloats::call_without))]
 pub fn push_cni_reply(
     alloc: Global,
     out: &mut String,
@@ -68,26 +70,9 @@ pub fn push_cni_reply(
         (string_bytes out.new ≡ string_bytes out.old ++ call_text status stdout.now) }
     ensures err { OnErr result (string_bytes out.new ≡ string_bytes out.old) }
 {
-    let text = call_string(alloc, status, stdout)?;
-    out.push_str(text.as_str())
-}
-
-#[tactic(auto, unfolding(crate::specs::Replies::call_text), using(crate::proofs::NoFloats::call_without))]
-fn call_string(alloc: Global, status: u8, stdout: &str) -> Result<String, AllocError>
-    ensures { IfOk result (λ s. string_bytes s ≡ call_text status stdout.now) }
-{
     let json = call_value(alloc, status, stdout)?;
-    json.to_string(alloc)
-}
-
-#[tactic(auto, unfolding(crate::specs::Replies::reply_line), using(crate::proofs::NoFloats::reply_without))]
-fn reply_string(alloc: Global, reply: &Reply) -> Result<String, AllocError>
-    ensures { IfOk result (λ s. string_bytes s ≡ reply_line reply.now) }
-{
-    let json = reply_value(alloc, reply)?;
-    let mut line = json.to_string(alloc)?;
-    line.push_str("\n")?;
-    Ok(line)
+    let text = json.to_string(alloc)?;
+    out.push_str(text.as_str())
 }
 
 fn reply_value(alloc: Global, reply: &Reply) -> Result<Value, AllocError>
@@ -98,12 +83,12 @@ fn reply_value(alloc: Global, reply: &Reply) -> Result<Value, AllocError>
         Reply::Answered(answer) => answered_value(alloc, answer),
         Reply::Waiting => tagged(alloc, "waiting", Value::Bool(true)),
         Reply::Stopped => tagged(alloc, "stopped", Value::Bool(true)),
-        Reply::Refused(why) => refused_value(alloc, *why),
+        Reply::Refused(why) => text_value(alloc, "refused", why.name()),
         Reply::Routes(revision, routes) => routes_value(alloc, *revision, routes.as_slice()),
         Reply::RoutesSince(since) => since_value(alloc, since),
         Reply::Rows(page) => page_value(alloc, page),
         Reply::Usage(revision, pools) => usage_value(alloc, *revision, pools.as_slice()),
-        Reply::Opened(text) => opened_value(alloc, text.as_str()),
+        Reply::Opened(text) => text_value(alloc, "opened", text.as_str()),
     }
 }
 
@@ -122,18 +107,12 @@ fn answered_value(alloc: Global, answer: &Answer) -> Result<Value, AllocError>
     tagged(alloc, "answer", value)
 }
 
-fn refused_value(alloc: Global, why: Refusal) -> Result<Value, AllocError>
-    ensures { IfOk result (λ v. view v ≡ reply_data (Reply.Refused why)) }
-{
-    let name = Value::try_from_str(alloc, why.name())?;
-    tagged(alloc, "refused", name)
-}
-
-fn opened_value(alloc: Global, text: &str) -> Result<Value, AllocError>
-    ensures { IfOk result (λ v. view v ≡ reply_data (Reply.Opened text.now)) }
+/// An object of one member, whose value is the text.
+fn text_value(alloc: Global, name: &str, text: &str) -> Result<Value, AllocError>
+    ensures { IfOk result (λ v. view v ≡ tagged name.now (string text.now)) }
 {
     let text = Value::try_from_str(alloc, text)?;
-    tagged(alloc, "opened", text)
+    tagged(alloc, name, text)
 }
 
 fn since_value(alloc: Global, since: &Since) -> Result<Value, AllocError>
@@ -150,36 +129,34 @@ fn since_value(alloc: Global, since: &Since) -> Result<Value, AllocError>
 fn routes_value(alloc: Global, revision: u64, routes: &[Route]) -> Result<Value, AllocError>
     ensures { IfOk result (λ v. view v ≡ routes_data revision routes.now) }
 {
-    let list = routes_list(alloc, routes)?;
-    two_members(alloc, "revision", Value::from(revision), "routes", list)
-}
-
-fn routes_list(alloc: Global, routes: &[Route]) -> Result<Value, AllocError>
-    ensures { IfOk result (λ v. view v ≡ array_of (map route_data routes.now)) }
-{
     let mut list = Vec::new(alloc);
     for route in routes {
         list.push(route_value(alloc, route)?)?;
     }
-    Ok(Value::Array(list))
+    two_members(
+        alloc,
+        "revision",
+        Value::from(revision),
+        "routes",
+        Value::Array(list),
+    )
 }
 
 #[tactic(auto, unfolding(crate::specs::Replies::changes_data))]
 fn changes_value(alloc: Global, revision: u64, changes: &[Change]) -> Result<Value, AllocError>
     ensures { IfOk result (λ v. view v ≡ changes_data revision changes.now) }
 {
-    let list = changes_list(alloc, changes)?;
-    two_members(alloc, "changes", list, "revision", Value::from(revision))
-}
-
-fn changes_list(alloc: Global, changes: &[Change]) -> Result<Value, AllocError>
-    ensures { IfOk result (λ v. view v ≡ array_of (map route_change_data changes.now)) }
-{
     let mut list = Vec::new(alloc);
     for change in changes {
         list.push(change_value(alloc, change)?)?;
     }
-    Ok(Value::Array(list))
+    two_members(
+        alloc,
+        "changes",
+        Value::Array(list),
+        "revision",
+        Value::from(revision),
+    )
 }
 
 #[tactic(auto, unfolding(crate::specs::Replies::route_data))]
@@ -247,36 +224,28 @@ fn row_value(alloc: Global, revision: u64, found: &Record) -> Result<Value, Allo
     let mut members = Map::new(alloc);
     let body = to_text(alloc, found)?;
     put(&mut members, alloc, "body", Value::String(body))?;
-    let key = key_string(alloc, found)?;
+    let key = found.key(alloc)?;
+    let key = key_text(alloc, &key)?;
     put(&mut members, alloc, "key", Value::String(key))?;
     put(&mut members, alloc, "revision", Value::from(revision))?;
     Ok(Value::Object(members))
-}
-
-/// The text of the record's key.
-fn key_string(alloc: Global, found: &Record) -> Result<String, AllocError>
-    ensures { IfOk result (λ s. string_bytes s ≡ key_bytes (key_of found.now)) }
-{
-    let key = found.key(alloc)?;
-    key_text(alloc, &key)
 }
 
 #[tactic(auto, unfolding(crate::specs::Replies::usage_data))]
 fn usage_value(alloc: Global, revision: u64, pools: &[PoolUsage]) -> Result<Value, AllocError>
     ensures { IfOk result (λ v. view v ≡ usage_data revision pools.now) }
 {
-    let list = pools_list(alloc, pools)?;
-    two_members(alloc, "pools", list, "revision", Value::from(revision))
-}
-
-fn pools_list(alloc: Global, pools: &[PoolUsage]) -> Result<Value, AllocError>
-    ensures { IfOk result (λ v. view v ≡ array_of (map pool_usage_data pools.now)) }
-{
     let mut list = Vec::new(alloc);
     for pool in pools {
         list.push(pool_value(alloc, pool)?)?;
     }
-    Ok(Value::Array(list))
+    two_members(
+        alloc,
+        "pools",
+        Value::Array(list),
+        "revision",
+        Value::from(revision),
+    )
 }
 
 #[tactic(auto, unfolding(crate::specs::Replies::pool_usage_data))]

@@ -1,4 +1,4 @@
-use ipam_feed::Change;
+use ipam_store::Change;
 use ipam_text::Seq;
 
 /// What became of the routes after a revision.

@@ -1,7 +1,7 @@
 //! Rows are taken into a page.
 ghost use Rattle.std.specs.Prelude.{◌≡◌, OnOk};
 ghost use Rattle.ipam_records.specs.Pages.{rows_of_pages};
-ghost use Rattle.ipam_session.specs.Page.{first_taken, is_after, parts_of, so_far, taken_from, with_next, with_taken};
+ghost use Rattle.ipam_session.specs.Page.{first_taken, is_after, parts_of, so_far, taken_from, with_next};
 
 use ipam_records::{Key, KeyRef, Record};
 use std::alloc::{AllocError, Global};
@@ -73,11 +73,16 @@ pub(crate) fn take_row(
 ) -> Result<(), AllocError>
     ensures { OnOk result (so_far taken.new ≡ with_next after.now (so_far taken.old) (revision, found.now)) }
 {
-    if is_after(after, found) {
-        add_row(taken, revision, found)
-    } else {
-        Ok(())
+    if !is_after(after, found) {
+        return Ok(());
     }
+    if taken.room > 0 {
+        taken.rows.push((revision, found.clone()?))?;
+        taken.room = taken.room.saturating_sub(parts_of(found));
+    } else {
+        taken.more = true;
+    }
+    Ok(())
 }
 
 /// Whether the record's key comes after this one.
@@ -88,19 +93,6 @@ fn is_after(after: &Option<Key>, found: &Record) -> bool
         Some(key) => KeyRef::of_record(found).compare(&KeyRef::of(key)).is_gt(),
         None => true,
     }
-}
-
-/// Takes the row, where there is room.
-fn add_row(taken: &mut Taken, revision: u64, found: &Record) -> Result<(), AllocError>
-    ensures { OnOk result (so_far taken.new ≡ with_taken (so_far taken.old) (revision, found.now)) }
-{
-    if taken.room > 0 {
-        taken.rows.push((revision, found.clone()?))?;
-        taken.room = taken.room.saturating_sub(parts_of(found));
-    } else {
-        taken.more = true;
-    }
-    Ok(())
 }
 
 /// How many parts a row has.

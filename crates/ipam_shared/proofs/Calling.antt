@@ -14,10 +14,10 @@ use Rattle.ipam_cluster.specs.declared.faults.FeedFault.{FeedFault}
 use Rattle.ipam_cluster.specs.declared.faults.FeedFault.TheVariants as feed_fault
 use Rattle.ipam_cluster.specs.declared.faults.PrepareFault.{PrepareFault}
 use Rattle.ipam_cluster.specs.declared.faults.PrepareFault.TheVariants as prepare_fault
-use Rattle.ipam_kept.specs.declared.kept.Kept.{Kept}
-use Rattle.ipam_kept.specs.Giving.{Gives}
-use Rattle.ipam_kept.specs.Kept.{LeavesKeeper, Tells}
-use Rattle.ipam_kept.specs.Turning.{IsDone, IsFailed, IsRefused}
+use Rattle.ipam_shared.specs.declared.kept.Kept.{Kept}
+use Rattle.ipam_shared.specs.Giving.{Gives}
+use Rattle.ipam_shared.specs.Kept.{LeavesKeeper, Tells}
+use Rattle.ipam_shared.specs.KeptTurning.{IsDone, IsFailed, IsRefused}
 use Rattle.ipam_shared.specs.declared.faults.SharedFault.{SharedFault}
 use Rattle.ipam_shared.specs.declared.faults.SharedFault.TheVariants.{Inner}
 use Rattle.ipam_shared.specs.declared.faults.SpentPass.{SpentPass as Spent}

@@ -7,10 +7,10 @@ use Rattle.ipam_keeper.specs.declared.keeper.KeepFault.TheVariants.{Failed, Memo
 use Rattle.ipam_keeper.specs.Keeping.{OnFailed, UnlessFailed}
 use Rattle.ipam_model.specs.declared.entry.Entry.{Entry}
 use Rattle.ipam_model.specs.History.{Base}
-use Rattle.ipam_kept.specs.declared.kept.Kept.{Kept}
-use Rattle.ipam_kept.specs.Feed.{FedWith, StaysFed}
-use Rattle.ipam_kept.specs.Kept.{Tells}
-use Rattle.ipam_kept.specs.Sure.{HeldFor, StaysSure, SureWith}
+use Rattle.ipam_shared.specs.declared.kept.Kept.{Kept}
+use Rattle.ipam_shared.specs.Feed.{FedWith, StaysFed}
+use Rattle.ipam_shared.specs.Kept.{Tells}
+use Rattle.ipam_shared.specs.Sure.{HeldFor, StaysSure, SureWith}
 use Rattle.ipam_shared.specs.Deeds.{told_by, told_if}
 use Rattle.ipam_shared.specs.Settling.{Settles}
 

@@ -5,8 +5,8 @@ use Rattle.ipam_records.specs.Datastore.{Datastore}
 use Rattle.ipam_model.specs.Consistent.{IsConsistent}
 use Rattle.ipam_model.specs.History.{store_at}
 use Rattle.ipam_laws.proofs.SlotsHistory.{consistent_law}
-use Rattle.ipam_kept.specs.declared.kept.Kept.{Kept}
-use Rattle.ipam_kept.specs.Kept.{IsKept, Tells}
+use Rattle.ipam_shared.specs.declared.kept.Kept.{Kept}
+use Rattle.ipam_shared.specs.Kept.{IsKept, Tells}
 use Rattle.ipam_shared.specs.declared.faults.SpentPass.{SpentPass as Spent}
 use Rattle.ipam_shared.specs.PassValue.{PassValue}
 use Rattle.ipam_shared.specs.Turning.{HadTurn}

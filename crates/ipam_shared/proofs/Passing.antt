@@ -6,9 +6,9 @@ use Rattle.ipam_model.specs.declared.entry.Entry.{Entry}
 use Rattle.ipam_model.specs.Consistent.{IsConsistent}
 use Rattle.ipam_model.specs.History.{Lawful, cluster_at, moment_of, slot_of_entry}
 use Rattle.ipam_cluster.specs.Cluster.{slot_of_cluster}
-use Rattle.ipam_kept.specs.declared.kept.Kept.{Kept}
-use Rattle.ipam_kept.specs.Kept.{KeptFor, Tells}
-use Rattle.ipam_kept.specs.Sure.{HeldFor, SureFor}
+use Rattle.ipam_shared.specs.declared.kept.Kept.{Kept}
+use Rattle.ipam_shared.specs.Kept.{KeptFor, Tells}
+use Rattle.ipam_shared.specs.Sure.{HeldFor, SureFor}
 use Rattle.ipam_shared.specs.declared.locked.Locked.{Locked}
 use Rattle.ipam_shared.specs.declared.opened.Opened.{Opened}
 use Rattle.ipam_shared.specs.Origins.{base_in, base_opened}

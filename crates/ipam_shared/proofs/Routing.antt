@@ -2,12 +2,12 @@
 use Rattle.std.proofs.Common.{◌≡◌, ◌↔◌, ℕ, ◌<◌, [], Option, Some, None, Result, Ok, Err, IsNone, IfSome, IfOk, sym, subst}
 use Rattle.std.specs.Global.{Vec}
 use Rattle.std.proofs.lemmas.Option.{IfSome_then}
-use Rattle.ipam_feed.specs.declared.route.Route.{Route}
-use Rattle.ipam_feed.specs.declared.change.Change.{Change}
-use Rattle.ipam_feed.specs.declared.fault.SinceFault.{SinceFault}
-use Rattle.ipam_feed.specs.declared.fault.SinceFault.TheVariants.{Compacted, Ahead}
-use Rattle.ipam_kept.specs.Feed.{AreChanges, AreRoutes, IsAhead, IsCompacted}
-use Rattle.ipam_kept.specs.Kept.{Tells}
+use Rattle.ipam_store.specs.declared.route.Route.{Route}
+use Rattle.ipam_store.specs.declared.change.Change.{Change}
+use Rattle.ipam_store.specs.declared.feed_fault.SinceFault.{SinceFault}
+use Rattle.ipam_store.specs.declared.feed_fault.SinceFault.TheVariants.{Compacted, Ahead}
+use Rattle.ipam_shared.specs.Feed.{AreChanges, AreRoutes, IsAhead, IsCompacted}
+use Rattle.ipam_shared.specs.Kept.{Tells}
 use Rattle.ipam_shared.specs.declared.faults.SharedFault.{SharedFault}
 use Rattle.ipam_shared.specs.declared.faults.SharedFault.TheVariants.{Inner}
 use Rattle.ipam_shared.specs.Deeds.{TellsChanges, TellsRoutes}

@@ -4,14 +4,14 @@ use denote.Param.Send.{IsSend, view_send, sendable}
 use denote.Param.SendFields.{declared_send}
 use Rattle.std.proofs.Crossing.{Vec-send, Deque-send}
 use Rattle.ipam_records.specs.contracts.call.Row as Row
-use Rattle.ipam_feed.specs.contracts.route.Route as Route
-use Rattle.ipam_feed.specs.contracts.change.Change as Change
-use Rattle.ipam_feed.specs.contracts.next.NextChange as NextChange
-use Rattle.ipam_feed.specs.contracts.ring.Ring as Ring
-use Rattle.ipam_feed.specs.contracts.ring.Ring.TheInside as ring_inside
+use Rattle.ipam_store.specs.contracts.route.Route as Route
+use Rattle.ipam_store.specs.contracts.change.Change as Change
+use Rattle.ipam_store.specs.contracts.feed_next.NextChange as NextChange
+use Rattle.ipam_store.specs.contracts.ring.Ring as Ring
+use Rattle.ipam_store.specs.contracts.ring.Ring.TheInside as ring_inside
 use Rattle.ipam_cluster.specs.contracts.cluster.Cluster as Cluster
-use Rattle.ipam_kept.specs.contracts.write.RowWrite as RowWrite
-use Rattle.ipam_kept.specs.contracts.kept.Kept as Kept
+use Rattle.ipam_shared.specs.contracts.write.RowWrite as RowWrite
+use Rattle.ipam_shared.specs.contracts.kept.Kept as Kept
 use Rattle.ipam_shared.specs.contracts.locked.Locked as Locked
 use Rattle.ipam_shared.proofs.SentRows.{parts}
 use Rattle.ipam_shared.proofs.SentStore.{store_send}

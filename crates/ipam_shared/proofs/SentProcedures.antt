@@ -7,10 +7,10 @@ use Rattle.ipam_model.specs.contracts.outcome.AddAnswer as AddAnswer
 use Rattle.ipam_model.specs.contracts.request.Admin as Admin
 use Rattle.ipam_model.specs.contracts.request.CollectRequest as CollectRequest
 use Rattle.ipam_model.specs.contracts.request.ProbeRequest as ProbeRequest
-use Rattle.ipam_add.specs.contracts.grant.Spot as Spot
-use Rattle.ipam_add.specs.contracts.grant.Grant as Grant
-use Rattle.ipam_add.specs.contracts.serving.Serving as Serving
-use Rattle.ipam_add.specs.contracts.add.AddProc as AddProc
+use Rattle.ipam_assign.specs.contracts.grant.Spot as Spot
+use Rattle.ipam_assign.specs.contracts.grant.Grant as Grant
+use Rattle.ipam_assign.specs.contracts.serving.Serving as Serving
+use Rattle.ipam_assign.specs.contracts.add.AddProc as AddProc
 use Rattle.ipam_assign.specs.contracts.add_this.Configured as Configured
 use Rattle.ipam_assign.specs.contracts.add_this.Stage as AddThisStage
 use Rattle.ipam_assign.specs.contracts.add_this.Ruled as Ruled

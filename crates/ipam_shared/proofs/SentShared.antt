@@ -12,7 +12,7 @@ use Rattle.atomic_table.specs.contracts.owned.Table as Table
 use Rattle.turn_lock.specs.declared.booked.Booked as booked
 use Rattle.turn_lock.specs.contracts.lock.TurnLock as TurnLock
 use Rattle.turn_lock.specs.contracts.lock.TurnLock.TheInside as lock_inside
-use Rattle.ipam_kept.specs.declared.Keeper.{Ghosts}
+use Rattle.ipam_keeper.specs.declared.keeper.Keeper.{Ghosts}
 use Rattle.ipam_shared.specs.contracts.shared.Shared as Shared
 use Rattle.ipam_shared.specs.contracts.shared.Shared.TheInside as inside
 use Rattle.ipam_shared.proofs.SentCluster.{locked_send}

@@ -6,10 +6,10 @@ use Rattle.ipam_keeper.specs.declared.keeper.KeepFault.TheVariants.{Failed, Memo
 use Rattle.ipam_model.specs.declared.entry.Entry.{Entry}
 use Rattle.ipam_model.specs.History.{Base, moment_of}
 use Rattle.ipam_laws.proofs.StandsFor.{entries-are}
-use Rattle.ipam_kept.specs.declared.kept.Kept.{Kept}
-use Rattle.ipam_kept.specs.Kept.{KeptFor, Tells}
-use Rattle.ipam_kept.specs.Sure.{SureFor}
-use Rattle.ipam_kept.proofs.SureStanding.{moment-later}
+use Rattle.ipam_shared.specs.declared.kept.Kept.{Kept}
+use Rattle.ipam_shared.specs.Kept.{KeptFor, Tells}
+use Rattle.ipam_shared.specs.Sure.{SureFor}
+use Rattle.ipam_shared.proofs.SureStanding.{moment-later}
 use Rattle.ipam_shared.specs.declared.faults.SharedFault.{SharedFault}
 use Rattle.ipam_shared.specs.declared.faults.SharedFault.TheVariants.{SpentPass, Inner}
 use Rattle.ipam_shared.specs.PassValue.{PassValue}

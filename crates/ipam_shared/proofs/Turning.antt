@@ -3,8 +3,8 @@ use Rattle.std.proofs.Common.{◌≡◌, ◌<◌, List, [], ◌∷◌, ◌++◌,
 use Rattle.ipam_model.specs.declared.entry.Entry.{Entry}
 use Rattle.ipam_laws.proofs.StandsFor.{entries-are}
 use Rattle.ipam_cluster.specs.Cluster.{IsSlot, slot_of_cluster}
-use Rattle.ipam_kept.specs.declared.kept.Kept.{Kept}
-use Rattle.ipam_kept.specs.Kept.{Tells}
+use Rattle.ipam_shared.specs.declared.kept.Kept.{Kept}
+use Rattle.ipam_shared.specs.Kept.{Tells}
 use Rattle.ipam_shared.specs.PassValue.{PassValue}
 use Rattle.ipam_shared.specs.Passes.{runs_at, runs_in}
 use Rattle.ipam_shared.specs.Turning.{met, moment_met, HadTurn, WasDone}

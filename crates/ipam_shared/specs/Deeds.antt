@@ -5,10 +5,10 @@ use Rattle.ipam_model.specs.declared.entry.Entry.{Entry}
 use Rattle.ipam_model.specs.declared.entry.Entry.TheVariants as entry
 use Rattle.ipam_model.specs.declared.entry.SlotState.TheVariants as state
 use Rattle.ipam_model.specs.declared.request.Request.{Request}
-use Rattle.ipam_feed.specs.declared.route.Route.{Route}
-use Rattle.ipam_feed.specs.declared.change.Change.{Change}
-use Rattle.ipam_feed.specs.declared.fault.SinceFault.{SinceFault}
-use Rattle.ipam_feed.specs.declared.fault.SinceFault.TheVariants as since_fault
+use Rattle.ipam_store.specs.declared.route.Route.{Route}
+use Rattle.ipam_store.specs.declared.change.Change.{Change}
+use Rattle.ipam_store.specs.declared.feed_fault.SinceFault.{SinceFault}
+use Rattle.ipam_store.specs.declared.feed_fault.SinceFault.TheVariants as since_fault
 use Rattle.ipam_model.specs.History.{Base}
 use Rattle.ipam_collect.specs.declared.collect.Grace.{Grace}
 use Rattle.ipam_cluster.specs.declared.faults.BeginFault.{BeginFault}
@@ -18,11 +18,11 @@ use Rattle.ipam_cluster.specs.declared.faults.FeedFault.TheVariants as feed_faul
 use Rattle.ipam_cluster.specs.declared.faults.PrepareFault.{PrepareFault}
 use Rattle.ipam_cluster.specs.declared.faults.PrepareFault.TheVariants as prepare_fault
 use Rattle.ipam_cluster.specs.Cluster.{slot_of_cluster, state_in, WaitsWith}
-use Rattle.ipam_kept.specs.declared.kept.Kept.{Kept}
-use Rattle.ipam_kept.specs.Feed.{AreChanges, AreRoutes, FedFor, IsAhead, IsCompacted}
-use Rattle.ipam_kept.specs.Giving.{Gives}
-use Rattle.ipam_kept.specs.Kept.{LeavesKeeper, Tells}
-use Rattle.ipam_kept.specs.Turning.{IsDone, IsFailed, IsRefused}
+use Rattle.ipam_shared.specs.declared.kept.Kept.{Kept}
+use Rattle.ipam_shared.specs.Feed.{AreChanges, AreRoutes, FedFor, IsAhead, IsCompacted}
+use Rattle.ipam_shared.specs.Giving.{Gives}
+use Rattle.ipam_shared.specs.Kept.{LeavesKeeper, Tells}
+use Rattle.ipam_shared.specs.KeptTurning.{IsDone, IsFailed, IsRefused}
 
 -- the entry that an answer tells of, if any
 abbrev pub told_by : {E : Type 0} → Result Entry E → List Entry

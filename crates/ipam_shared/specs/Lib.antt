@@ -5,3 +5,16 @@ pub mod PassValue
 pub mod Passes
 pub mod Turning
 pub mod Settling
+pub mod Rows
+pub mod Broken
+pub mod Doubt
+pub mod Faults
+pub mod Giving
+pub mod Kept
+pub mod Feed
+pub mod Sure
+pub mod Opening
+pub mod KeptTurning
+pub mod Solo
+pub mod Steps
+pub mod Courses

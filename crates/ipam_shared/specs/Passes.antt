@@ -8,10 +8,10 @@ use Rattle.ipam_model.specs.declared.limits.TheConstants.{SLOTS}
 use Rattle.ipam_model.specs.Cluster.{RunningRequest}
 use Rattle.ipam_model.specs.Consistent.{IsConsistent}
 use Rattle.ipam_model.specs.History.{Base, Lawful, cluster_at, moment_of, slot_of_entry}
-use Rattle.ipam_kept.specs.declared.kept.Kept.{Kept}
-use Rattle.ipam_kept.specs.Feed.{FedFor}
-use Rattle.ipam_kept.specs.Kept.{KeptFor, Tells}
-use Rattle.ipam_kept.specs.Sure.{HeldFor}
+use Rattle.ipam_shared.specs.declared.kept.Kept.{Kept}
+use Rattle.ipam_shared.specs.Feed.{FedFor}
+use Rattle.ipam_shared.specs.Kept.{KeptFor, Tells}
+use Rattle.ipam_shared.specs.Sure.{HeldFor}
 use Rattle.ipam_shared.specs.declared.opened.Opened.{Opened}
 use Rattle.ipam_shared.specs.Origins.{base_in}
 use Rattle.ipam_shared.specs.PassValue.{PassValue}

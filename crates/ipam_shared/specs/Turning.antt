@@ -7,10 +7,10 @@ use Rattle.ipam_model.specs.declared.entry.SlotState.TheVariants as state
 use Rattle.ipam_model.specs.Cluster.{RunningRequest, state_of}
 use Rattle.ipam_model.specs.History.{moment_of, slot_of_entry}
 use Rattle.ipam_cluster.specs.Running.{grace_of}
-use Rattle.ipam_kept.specs.declared.kept.Kept.{Kept}
-use Rattle.ipam_kept.specs.Feed.{FedFor}
-use Rattle.ipam_kept.specs.Kept.{KeptFor, Tells}
-use Rattle.ipam_kept.specs.Sure.{SureFor}
+use Rattle.ipam_shared.specs.declared.kept.Kept.{Kept}
+use Rattle.ipam_shared.specs.Feed.{FedFor}
+use Rattle.ipam_shared.specs.Kept.{KeptFor, Tells}
+use Rattle.ipam_shared.specs.Sure.{SureFor}
 use Rattle.ipam_shared.specs.declared.faults.SharedFault.{SharedFault}
 use Rattle.ipam_shared.specs.declared.faults.SharedFault.TheVariants.{SpentPass, Inner}
 use Rattle.ipam_shared.specs.declared.faults.SpentPass.{SpentPass as Spent}

@@ -2,8 +2,7 @@
 ghost use Rattle.std.specs.Prelude.{◌≡◌};
 
 use crate::shared::Shared;
-use ipam_keeper::MemoryKeeper;
-use ipam_kept::Keeper;
+use ipam_keeper::{Keeper, MemoryKeeper};
 
 // Takes what may be handed to another thread and used by many.
 fn cross<S: Send + Sync>(_it: &S) {}

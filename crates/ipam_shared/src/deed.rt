@@ -4,13 +4,14 @@ ghost use Rattle.ipam_model.specs.declared.entry.Entry.{Entry as OneEntry};
 ghost use Rattle.ipam_model.specs.declared.limits.TheConstants.{SLOTS};
 ghost use Rattle.ipam_model.specs.History.{Base, slot_of_entry};
 ghost use Rattle.ipam_cluster.specs.Cluster.{slot_of_cluster};
-ghost use Rattle.ipam_kept.specs.declared.kept.Kept.{Kept as KeptValue};
-ghost use Rattle.ipam_kept.specs.Kept.{IsKept};
-ghost use Rattle.ipam_kept.specs.Sure.{HeldFor};
+ghost use Rattle.ipam_shared.specs.declared.kept.Kept.{Kept as KeptValue};
+ghost use Rattle.ipam_shared.specs.Kept.{IsKept};
+ghost use Rattle.ipam_shared.specs.Sure.{HeldFor};
 ghost use Rattle.turn_lock.specs.Histories.{AtMostOneBy};
 
+use crate::kept::Kept;
 use crate::locked::Locked;
-use ipam_kept::{Keeper, Kept};
+use ipam_keeper::Keeper;
 use ipam_model::SlotState;
 use turn_lock::Step;
 

@@ -7,13 +7,14 @@ ghost use Rattle.ipam_shared.specs.Deeds.{told_by, told_if, Begins, Feeds, Calls
 ghost use Rattle.ipam_shared.specs.Settling.{Settles};
 
 use crate::deed::Deed;
+use crate::kept::Kept;
 use crate::look::Look;
-use ipam_kept::{
-    BeginFault, Change, FeedFault, KeepFault, Keeper, Kept, Memory, PrepareFault, Route, SinceFault,
-};
+use ipam_cluster::{BeginFault, FeedFault, PrepareFault};
+use ipam_keeper::{KeepFault, Keeper};
 use ipam_model::{Entry, Request};
+use ipam_store::{Change, Route, SinceFault};
 use ipam_text::Text;
-use std::alloc::Global;
+use std::alloc::{AllocError as Memory, Global};
 
 /// The request is begun.
 #[derive(Drop)]

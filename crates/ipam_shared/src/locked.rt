@@ -1,10 +1,11 @@
 // The kept cluster as the value of a lock.
 ghost use Rattle.ipam_model.specs.History.{slot_of_entry};
-ghost use Rattle.ipam_kept.specs.Sure.{HeldFor};
+ghost use Rattle.ipam_shared.specs.Sure.{HeldFor};
 ghost use Rattle.ipam_shared.specs.Origins.{base_opened};
 
+use crate::kept::Kept;
 use crate::opened::Opened;
-use ipam_kept::{Keeper, Kept};
+use ipam_keeper::Keeper;
 use ipam_model::Entry;
 use turn_lock::Booked;
 

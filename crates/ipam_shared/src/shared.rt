@@ -11,9 +11,9 @@ ghost use Rattle.ipam_model.specs.Cluster.{state_of};
 ghost use Rattle.ipam_model.specs.History.{slot_of_entry, store_at};
 ghost use Rattle.ipam_model.specs.SoundRequest.{IsSoundRequest};
 ghost use Rattle.ipam_collect.specs.declared.collect.Grace.{Grace};
-ghost use Rattle.ipam_kept.specs.Feed.{AreChanges, AreRoutes, IsAhead, IsCompacted};
-ghost use Rattle.ipam_kept.specs.Kept.{LeavesKeeper};
-ghost use Rattle.ipam_kept.specs.Turning.{IsDone, IsFailed, IsRefused};
+ghost use Rattle.ipam_shared.specs.Feed.{AreChanges, AreRoutes, IsAhead, IsCompacted};
+ghost use Rattle.ipam_shared.specs.Kept.{LeavesKeeper};
+ghost use Rattle.ipam_shared.specs.KeptTurning.{IsDone, IsFailed, IsRefused};
 ghost use Rattle.ipam_shared.specs.Deeds.{told_by};
 ghost use Rattle.ipam_shared.specs.Passes.{runs_in, IsLawfulPass, IsNewlyKept, IsSamePass, IsSplit, IsTold, KeptPast, own_base};
 ghost use Rattle.ipam_shared.specs.Settling.{IsSure, KnowsSure, SettlesAs, WasSettled};
@@ -22,15 +22,16 @@ ghost use Rattle.ipam_shared.specs.Turning.{OnSpent, UnlessSpent, told_stopped, 
 use crate::deed::{Deed, InSlot};
 use crate::deeds::{Begin, Call, Feed, Looks, Routes, RoutesSince, Settle, Stop};
 use crate::faults::{SharedFault, SpentPass};
+use crate::kept::Kept;
 use crate::locked::Locked;
 use crate::look::Look;
 use crate::pass::Pass;
-use ipam_kept::{
-    BeginFault, Change, FeedFault, KeepFault, Keeper, Kept, Memory, PrepareFault, Route, SinceFault,
-};
+use ipam_cluster::{BeginFault, FeedFault, PrepareFault};
+use ipam_keeper::{KeepFault, Keeper};
 use ipam_model::{Entry, Request};
+use ipam_store::{Change, Route, SinceFault};
 use ipam_text::Text;
-use std::alloc::Global;
+use std::alloc::{AllocError as Memory, Global};
 use std::marker::Model;
 use std::sync::Wait;
 use turn_lock::TurnLock;

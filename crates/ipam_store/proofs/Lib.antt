@@ -12,3 +12,11 @@ pub mod CidrLemmas
 pub mod NodeLemmas
 pub mod Listed
 pub mod Rewriting
+pub mod Sorted
+pub mod Routes
+pub mod Differences
+pub mod FeedRows
+pub mod Popped
+pub mod Writes
+pub mod Histories
+pub mod Pushes

@@ -17,3 +17,10 @@ pub mod Shape
 pub mod Keeping
 pub mod Granted
 pub mod AlwaysSound
+pub mod Route
+pub mod Change
+pub mod Feed
+pub mod FeedShape
+pub mod Turned
+pub mod FeedKeeping
+pub mod Follows

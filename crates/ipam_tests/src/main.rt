@@ -1,14 +1,44 @@
-//! One program that runs the tests of all libraries of tests: a program that links most of the product takes a
-//! compiler minutes. Standard input has a section for each library. A section begins with a line that has its name,
-//! as `== ipam_leaf_tests`; no case has a line that begins so. Standard output has the same sections, and in each
-//! what the library answers.
+//! The tests of what no program of this repository can be asked. They are one program, since a program that links
+//! most of the product takes a compiler minutes. Standard input has a section for each kind of tests. A section begins
+//! with a line that has its name, as `== leaf`; no case has a line that begins so. Standard output has the same
+//! sections, and in each what the tests answer.
 //!
-//! In most sections a case is a line, with a kind and a question; the output has the answer after them. Three have
-//! cases of several lines, with a blank line between two. Those of `ipam_command_tests` and of `ipam_daemon_tests`
-//! are scenarios, each with the lines that are wanted of its steps; the output has each title and how many lines
-//! these were, or the lines that came where they are others. Of a case of `ipam_shared_tests` the output has what
-//! came of it, and standard error how long it took.
+//! `leaf` and `lock`: a case is a line, with a kind and a question, as `times|0 5000` and `threads|15 200`; the output
+//! has the answer after them. In a line of `leaf` `␤` stands for a line feed.
+//! - `leaf`: the system's clock where it is set back or can't be read, lines of a source after a read that failed, a
+//!   connection over TCP, the error of a call that lost too many races, a result without addresses, members of JSON
+//!   values that are read by their paths, a store against a plain one, and calls of the libraries that the program does
+//!   not make.
+//! - `lock`: a book of notes under a turn lock, used by one thread, by two and by sixteen.
+//!
+//! `command`, `shared` and `daemon`: a case has several lines, and a blank line stands between two. Those of `command`
+//! and `daemon` are scenarios, each with the lines that are wanted of its steps; the output has each title and how many
+//! lines these were, or the lines that came where they are others. Of a case of `shared` the output has what came of
+//! it, and standard error how long it took.
+//! - `command`: commands over rows in memory, scripts that are played, audits, the client's calls of a daemon whose
+//!   reply is in memory, and the freeing of one assignment.
+//! - `shared` and `daemon` are those of `ipam_daemon_tests`.
 #![tactic(auto)]
+
+mod answers;
+mod audits;
+mod book;
+mod calls;
+mod client;
+mod clocks;
+mod command;
+mod command_texts;
+mod compared;
+mod fields;
+mod freed;
+mod lines;
+mod links;
+mod lock_cases;
+mod plain;
+mod records;
+mod steps;
+mod texts;
+mod writers;
 
 use std::alloc::AllocError;
 use std::io;
@@ -16,41 +46,34 @@ use std::sync::Wait;
 use std::thread::Threads;
 use std::time::Clock;
 
-/// What the library of this name answers to a line.
-fn answered(rt: &HostRuntime, name: &str, line: &str) -> Result<String, AllocError> {
-    match name {
-        "ipam_leaf_tests" => ipam_leaf_tests::answered(rt, line),
-        _ => format!(in rt.alloc(); "no section is named {name}"),
-    }
-}
-
-/// What the library of this name tells of a case, which it may play by several threads. `threads` is the runtime
-/// too: what makes them.
+/// What the tests of this kind tell of a case, which they may play by several threads. `threads` is the runtime too:
+/// what makes them.
 fn told<R: Threads + Wait + Sync + Clock + Eprint>(
     threads: &R,
     rt: &HostRuntime,
-    name: &str,
+    kind: &str,
     case: &str,
 ) -> io::Result<String> {
-    let told = match name {
-        "turn_lock_tests" => turn_lock_tests::answered(threads, rt.alloc(), case)?,
-        "ipam_command_tests" => ipam_command_tests::report(threads, rt.alloc(), case)?,
-        "ipam_shared_tests" => ipam_shared_tests::told(threads, rt.alloc(), case)?,
-        "ipam_daemon_tests" => ipam_daemon_tests::report(threads, rt, case)?,
-        _ => answered(rt, name, case)?,
+    let told = match kind {
+        "leaf" => answers::answered(rt, case)?,
+        "lock" => lock_cases::answered(threads, rt.alloc(), case)?,
+        "command" => steps::report(threads, rt.alloc(), case)?,
+        "shared" => ipam_daemon_tests::shared_told(threads, rt.alloc(), case)?,
+        "daemon" => ipam_daemon_tests::report(threads, rt, case)?,
+        _ => format!(in rt.alloc(); "no section is named {kind}")?,
     };
     Ok(told)
 }
 
-/// What stands between two cases of this section.
-fn between(name: &str) -> &'static str {
-    match name {
-        "ipam_command_tests" | "ipam_shared_tests" | "ipam_daemon_tests" => "\n\n",
+/// What stands between two cases of this kind.
+fn between(kind: &str) -> &'static str {
+    match kind {
+        "command" | "shared" | "daemon" => "\n\n",
         _ => "\n",
     }
 }
 
-/// Writes the section's first line, and what its library tells of each case.
+/// Writes the section's first line, and what the tests of its kind tell of each case.
 fn answer_section<R: Threads + Wait + Sync + Clock + Eprint>(
     threads: &R,
     rt: &HostRuntime,

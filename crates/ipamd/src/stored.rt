@@ -4,10 +4,9 @@ ghost use Rattle.ipam_words.specs.Upkeep.{IsFit, of_upkeep};
 
 use crate::telling::{tell_missing, tell_no_path, tell_reading, tell_why};
 use crate::upkeep::{Rows, back_up};
-use ipam_audit::run_audit;
 use ipam_call::Database;
 use ipam_command::run_command;
-use ipam_commands::unreserve;
+use ipam_commands::{run_audit, unreserve};
 use ipam_io::{StdSink, StdSource};
 use ipam_keeper::Keeper;
 use ipam_sqlite::FileKeeper;

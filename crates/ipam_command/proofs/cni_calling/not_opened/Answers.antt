@@ -1,5 +1,5 @@
 use Rattle.std.proofs.Common.{◌≡◌, ◌⊎◌, inl, inr}
-use Rattle.ipam_kept.specs.declared.kept.KeptFault.TheVariants as fault
+use Rattle.ipam_shared.specs.declared.kept.KeptFault.TheVariants as fault
 use Rattle.ipam_command.proofs.Told.{on_want}
 use Rattle.ipam_command.proofs.cni_calling.not_opened.Goals as goal
 

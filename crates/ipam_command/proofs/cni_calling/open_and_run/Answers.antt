@@ -1,5 +1,5 @@
 use Rattle.std.proofs.Common.{◌≡◌, ◌⊎◌, inr}
-use Rattle.ipam_kept.specs.declared.kept.KeptFault.TheVariants as fault
+use Rattle.ipam_shared.specs.declared.kept.KeptFault.TheVariants as fault
 use Rattle.ipam_command.proofs.Openings.{opened_ends, unopened_ends}
 use Rattle.ipam_command.proofs.Told.{on_want, unopened_wants}
 use Rattle.ipam_command.proofs.cni_calling.open_and_run.Goals as goal

@@ -1,5 +1,5 @@
 use Rattle.std.proofs.Common.{◌≡◌, Ok, Err, ap}
-use Rattle.ipam_kept.specs.declared.kept.KeptFault.TheVariants as fault
+use Rattle.ipam_shared.specs.declared.kept.KeptFault.TheVariants as fault
 use Rattle.ipam_commands.proofs.Wanting.{unmade_wants}
 use Rattle.ipam_commands.proofs.changing.tell_change.Goals as goal
 

@@ -1,6 +1,6 @@
 use Rattle.std.proofs.Common.{refl}
-use Rattle.ipam_kept.proofs.Openings.{has-cause}
-use Rattle.ipam_kept.specs.declared.kept.KeptFault.TheVariants as fault
+use Rattle.ipam_shared.proofs.Openings.{has-cause}
+use Rattle.ipam_shared.specs.declared.kept.KeptFault.TheVariants as fault
 use Rattle.ipam_commands.specs.Telling.{AreOpened, IsLoadedAs}
 use Rattle.ipam_commands.specs.declared.loading.Loaded.{Loaded}
 use Rattle.ipam_commands.proofs.Loadings.{are-opened, none-failed, not-loaded, opened-as}

@@ -1,4 +1,4 @@
-use Rattle.ipam_kept.proofs.TextRows.{ascend-by_key}
+use Rattle.ipam_shared.proofs.TextRows.{ascend-by_key}
 use Rattle.ipam_commands.proofs.loading.open_rows.Goals as goal
 
 pub open-requires : goal.open-requires

@@ -1,5 +1,5 @@
 use Rattle.std.proofs.Common.{◌≡◌, Err, ap, inr}
-use Rattle.ipam_kept.specs.declared.kept.KeptFault.TheVariants as fault
+use Rattle.ipam_shared.specs.declared.kept.KeptFault.TheVariants as fault
 use Rattle.ipam_commands.specs.Telling.{NotOpened, Opened}
 use Rattle.ipam_commands.proofs.Wanting.{line_wants, unopened_wants}
 use Rattle.ipam_commands.proofs.reporting.tell_rows.Goals as goal

@@ -1,5 +1,5 @@
 use Rattle.std.proofs.Common.{◌≡◌, ◌⊎◌, inr}
-use Rattle.ipam_kept.specs.declared.kept.KeptFault.TheVariants as fault
+use Rattle.ipam_shared.specs.declared.kept.KeptFault.TheVariants as fault
 use Rattle.ipam_commands.specs.Applied.{NotOpened}
 use Rattle.ipam_commands.proofs.Wanting.{unopened_wants}
 use Rattle.ipam_commands.proofs.Endings.{not-loaded, opened-ends}

@@ -1,5 +1,5 @@
 use Rattle.std.proofs.Common.{Ok, Err, rules}
-use Rattle.ipam_audit.specs.Printed.{report_text}
+use Rattle.ipam_commands.specs.Printed.{report_text}
 use Rattle.ipam_operator.proofs.AuditSaying.{fault_says}
 use Rattle.ipam_operator.proofs.auditing.audit.Goals as goal
 

@@ -1,3 +1,0 @@
-pub mod Grant
-pub mod Serving
-pub mod Adding

@@ -1,9 +1,0 @@
-use Rattle.std.proofs.Common.{◌≡◌, ◌++◌, drop}
-use Rattle.ipam_records.specs.declared.key.Kind.TheVariants as kind
-use Rattle.ipam_records.specs.Datastore.{rows_of_kind}
-use Rattle.ipam_records.specs.Pages.{rows_of_pages}
-use Rattle.ipam_audit.specs.Reported.{stale_in}
-use Rattle.ipam_audit.proofs.affinities.stale.Given as goal
-
-abbrev pub invariant-loop-page : goal.invariant-loop-page
-invariant-loop-page l = l.found.items ++ stale_in (rows_of_pages (drop l.page-index l.page-items)) ≡ stale_in (rows_of_kind kind.Affinity l.store.store)

@@ -1,7 +1,0 @@
-use Rattle.std.proofs.Common.{◌≡◌, ◌++◌, drop}
-use Rattle.ipam_records.specs.Pages.{rows_of_pages}
-use Rattle.ipam_audit.specs.Reported.{excess_in}
-use Rattle.ipam_audit.proofs.excess.excess_in.Given as goal
-
-abbrev pub invariant-loop-page : goal.invariant-loop-page
-invariant-loop-page l = l.found.items ++ excess_in l.store.store (rows_of_pages (drop l.page-index l.pages)) ≡ excess_in l.store.store (rows_of_pages l.pages)

@@ -1,0 +1,5 @@
+use Rattle.ipam_shared.specs.Kept.{IsKept}
+use Rattle.ipam_daemon_tests.proofs.steps.tell.Given as goal
+
+abbrev pub invariant-loop-line : goal.invariant-loop-line
+invariant-loop-line g l = IsKept g.D.Keeper.rows l.kept

@@ -1,9 +1,0 @@
-use Rattle.std.proofs.Common.{◌≡◌, ◌++◌, drop}
-use Rattle.ipam_records.specs.Pages.{rows_of_pages}
-use Rattle.ipam_records.specs.Listing.{rows_of}
-use Rattle.ipam_feed.specs.Route.{routes_of}
-use Rattle.ipam_feed.proofs.ring.routes_listed.Given as goal
-
-abbrev pub invariant-loop-page : goal.invariant-loop-page
-invariant-loop-page l =
-    l.routes.items ++ routes_of (rows_of_pages (drop l.page-index l.page-items)) ≡ routes_of (rows_of l.affinities)

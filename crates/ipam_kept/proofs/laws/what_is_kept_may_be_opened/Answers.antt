@@ -1,5 +1,0 @@
-use Rattle.ipam_kept.proofs.Doubts.{kept_opens}
-use Rattle.ipam_kept.proofs.laws.what_is_kept_may_be_opened.Goals as goal
-
-pub returns : goal.returns
-returns c = kept_opens

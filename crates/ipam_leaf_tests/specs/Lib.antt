@@ -1,2 +1,0 @@
--- What the tests ask.
-pub mod RecordCall

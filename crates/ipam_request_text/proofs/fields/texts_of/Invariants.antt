@@ -1,9 +1,0 @@
-use Rattle.std.proofs.Common.{◌≡◌, [], drop}
-use Rattle.serde_json.specs.View.{items_view}
-use Rattle.ipam_request_text.specs.Fields.{texts_after}
-use Rattle.ipam_request_text.proofs.fields.texts_of.Given as goal
-
--- what was found so far, and what the other items hold
-abbrev pub invariant-loop-item : goal.invariant-loop-item
-invariant-loop-item l =
-    texts_after l.texts.items (items_view (drop l.item-index l.items)) ≡ texts_after [] (items_view l.items)

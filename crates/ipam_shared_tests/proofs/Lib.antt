@@ -1,3 +1,0 @@
--- What is opened is kept.
-pub mod Opened
-pub mod Standing

@@ -1,5 +1,0 @@
-use Rattle.ipam_kept.specs.Kept.{IsKept}
-use Rattle.ipam_shared_tests.proofs.steps.take.Given as goal
-
-abbrev pub invariant-loop : goal.invariant-loop
-invariant-loop g l = IsKept g.D.Keeper.rows l.kept

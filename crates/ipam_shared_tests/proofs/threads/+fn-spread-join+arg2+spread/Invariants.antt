@@ -1,8 +1,0 @@
-use Rattle.std.proofs.Common.{◌+◌, ◌*◌}
-use Rattle.ipam_shared_tests.proofs.threads.+fn-spread-join+arg2+spread.Given as goal
-
-abbrev pub decreases-join+arg2 : goal.decreases-join+arg2
-decreases-join+arg2 g l = 2 * l.more + 1
-
-abbrev pub decreases-spread : goal.decreases-spread
-decreases-spread g l = 2 * l.others

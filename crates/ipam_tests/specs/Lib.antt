@@ -1,0 +1,3 @@
+-- What the tests ask.
+pub mod RecordCall
+pub mod Written
