@@ -40,6 +40,8 @@ class Booted:
             if children:
                 self.leader = children[0]
                 if self.run("systemctl", "is-system-running")[1].strip() in ("running", "degraded"):
+                    # (the folder's own /etc/hostname has set another one)
+                    self.run("hostname", name)
                     return
             time.sleep(0.2)
         self.log.seek(0)
@@ -57,6 +59,14 @@ class Booted:
     def shell(self, line, **environment):
         """The same of a line of the shell."""
         return self.run("sh", "-c", line, **environment)
+
+    def take(self, path):
+        """The bytes of a file in it."""
+        return subprocess.run(["nsenter", "-t", self.leader, "-a", "cat", path], capture_output=True, check=True).stdout
+
+    def put(self, path, data):
+        """Makes a file in it of these bytes."""
+        subprocess.run(["nsenter", "-t", self.leader, "-a", "tee", path], input=data, stdout=subprocess.DEVNULL, check=True)
 
     def end(self):
         self.nspawn.terminate()
