@@ -27,10 +27,10 @@ def missing(root):
 class Booted:
     """The system, from its boot until it is ended. What it writes is gone then. The repository is its /project."""
 
-    def __init__(self, root, name="booted", binds=()):
+    def __init__(self, root, name="booted", binds=(), more=()):
         words = ["systemd-nspawn", "-q", "-D", root, "--volatile=overlay", "--boot", "--register=no", "--keep-unit"]
         words += ["--private-network", "-M", name, "--console=pipe", f"--bind-ro={TOP}:/project"]
-        words += [f"--bind={one}" for one in binds]
+        words += [*(f"--bind={one}" for one in binds), *more]
         self.log = tempfile.TemporaryFile()
         self.nspawn = subprocess.Popen(words, stdin=subprocess.DEVNULL, stdout=self.log, stderr=self.log)
         self.leader = None
