@@ -53,6 +53,21 @@ elif word == "DEL":
     os.remove(result)
     subprocess.run(["ip", "netns", "del", pod], check=True)
 """
+# How many milliseconds an ADD by the plugin takes, the median of fifty
+TIME = """
+import json, os, statistics, subprocess, sys, time
+words = {"CNI_IFNAME": "eth0", "CNI_NETNS": "/x", "CNI_PATH": "/usr/lib/cni"}
+stdin = json.dumps({"cniVersion": "1.0.0", "name": "k8s-pod-network", "type": "x", "nodename": sys.argv[1], "ipam": {"type": "calico-ipam"}}).encode()
+taken = []
+for at in range(50):
+    for command in ("ADD", "DEL"):
+        start = time.perf_counter()
+        env = {**words, "CNI_COMMAND": command, "CNI_CONTAINERID": f"timed-{sys.argv[1]}"}
+        ran = subprocess.run(["/usr/lib/cni/calico-ipam"], input=stdin, env=env, capture_output=True)
+        taken += [(time.perf_counter() - start) * 1e3] if command == "ADD" else []
+        assert ran.returncode == 0, ran.stdout
+print(f"{statistics.median(taken):.1f}")
+"""
 LISTEN = """
 import socket, sys
 server = socket.create_server((sys.argv[1], 7000))
@@ -132,6 +147,11 @@ class Cluster:
         others = [address for other, (_, address) in self.pods.items() if other != pod]
         check(f"{pod} starts on {name} with an address of its own", status == 0 and out not in others, (out, faults))
 
+    def time(self, name, what):
+        status, out, faults = self.systems[name].run("python3", "-c", TIME, name)
+        check(f"fifty ADDs and DELs {what}", status == 0, faults)
+        print(f"an ADD {what}: {out.strip()} ms", flush=True)
+
     def reaches(self, client, server):
         """Who the server's pod takes the client's for."""
         (here, _), (there, address) = self.pods[client], self.pods[server]
@@ -173,6 +193,8 @@ def link_by_ssh(cluster):
     check("the key opens no shell", "uid=" not in cluster.shell("node-b", shell)[1])
     cluster.start("node-a", "a1")
     cluster.start("node-b", "b1")
+    cluster.time("node-a", "beside the daemon")
+    cluster.time("node-b", "over ssh")
     cluster.shell("node-b", "systemctl kill -s KILL ipam-link")
     cluster.until("the link comes again", "node-b", f"ipam --daemon {SOCKET} show")
 
@@ -188,6 +210,7 @@ def link_by_stunnel(cluster):
     block.commands = block.commands.replace("\nipam ", "\nfor at in $(seq 50); do ss -tln | grep -q :9431 && break; sleep 0.1; done\nipam ")
     check("the link by stunnel", "default-ipv4-ippool" in cluster.play(heading, "node-b"))
     cluster.start("node-b", "b2")
+    cluster.time("node-b", "over stunnel")
     wrong = f"printf 'node-b:%064d\\n' 0 > /etc/stunnel/ipam.psk; systemctl restart stunnel@ipam; sleep 1; ipam --daemon 127.0.0.1:9431 show"
     check("another secret opens nothing", cluster.shell("node-b", wrong)[0] != 0)
     cluster.systems["node-b"].put(ssh, before)
