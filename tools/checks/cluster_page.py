@@ -217,8 +217,7 @@ def link_by_stunnel(cluster):
 
 
 def routes(cluster):
-    for name in cluster.systems:
-        cluster.play("Routes", name)
+    cluster.play("Routes", "each machine")
     for name, other in (("node-a", "node-b"), ("node-b", "node-a")):
         cluster.until(f"routes to {other}", name, f"ip route show via {ADDRESSES[other]} | grep -q 192.168")
     cluster.each_reaches_each("routes")
