@@ -6,7 +6,7 @@ use Rattle.ipam_model.specs.declared.entry.SlotState.{SlotState}
 use Rattle.ipam_model.specs.declared.entry.SlotState.TheVariants as state
 use Rattle.ipam_model.specs.Cluster as model
 use Rattle.ipam_model.specs.History.{Base, cluster_at}
-use Rattle.ipam_model.specs.Right.{IsRight}
+use Rattle.ipam_laws.specs.Right.{IsRight}
 use Rattle.ipam_model.specs.Stands.{Stands}
 use Rattle.ipam_collect.specs.declared.collect.Grace.{Grace}
 use Rattle.ipam_cluster.specs.declared.running.Running.{Running}

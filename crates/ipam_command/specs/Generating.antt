@@ -1,7 +1,7 @@
 -- The generator's course is a right history, and its summary is counted on one.
 use Rattle.std.specs.Prelude.{◌≡◌, ℕ, List, Option}
 use Rattle.ipam_model.specs.declared.entry.Entry.{Entry}
-use Rattle.ipam_model.specs.Right.{IsRight}
+use Rattle.ipam_laws.specs.Right.{IsRight}
 use Rattle.ipam_command.specs.declared.gen_end.GenEnd.{GenEnd}
 use Rattle.ipam_command.specs.declared.gen_end.GenEnd.TheVariants as end
 use Rattle.ipam_command.specs.Generated.{IsGenerated}

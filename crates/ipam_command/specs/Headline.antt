@@ -2,7 +2,7 @@
 use Rattle.std.specs.Prelude.{◌≢◌, ℕ, List, [], reverse, Option}
 use Rattle.ipam_records.specs.Datastore.{Datastore}
 use Rattle.ipam_model.specs.declared.entry.Entry.{Entry}
-use Rattle.ipam_model.specs.Right.{IsRight}
+use Rattle.ipam_laws.specs.Right.{IsRight}
 use Rattle.ipam_play.specs.Played.{Ending, IsPlayed, base_of}
 use Rattle.ipam_play.specs.Player.{IsBaseOpened}
 use Rattle.ipam_play.specs.Readings.{readings}

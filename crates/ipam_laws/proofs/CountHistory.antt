@@ -17,11 +17,11 @@ use Rattle.ipam_laws.proofs.CountKinds.{step-counts}
 -- ---- a sum over the slots of which one changes
 
 -- the numbers from one on, of so many
-sum_with : (f : ℕ → ℕ) → (many from : ℕ) → ℕ
+unfoldable pub sum_with : (f : ℕ → ℕ) → (many from : ℕ) → ℕ
 sum_with f zero from = 0
 sum_with f (suc many) from = f from + sum_with f many (from + 1)
 
-sum-with : (f : ℕ → ℕ) (many from : ℕ) → sum_by f (range_with_len from many) ≡ sum_with f many from
+pub sum-with : (f : ℕ → ℕ) (many from : ℕ) → sum_by f (range_with_len from many) ≡ sum_with f many from
 unfolding sum_with
 sum-with f zero from = refl
 sum-with f (suc many) from = sum_by-cons f from (range_with_len (from + 1) many) ∙ ap (λ n. f from + n) (sum-with f many (from + 1))
@@ -34,7 +34,7 @@ same_sum f g slot same (suc many) from below =
     let there = same_sum f g slot same many (from + 1) (omega arith) in
     omega arith
 
-changed_sum : (f g : ℕ → ℕ) (slot : ℕ) → ((other : ℕ) → other ≢ slot → f other ≡ g other) → (many from : ℕ) → from ≤ slot → slot < from + many → sum_with f many from + g slot ≡ sum_with g many from + f slot
+pub changed_sum : (f g : ℕ → ℕ) (slot : ℕ) → ((other : ℕ) → other ≢ slot → f other ≡ g other) → (many from : ℕ) → from ≤ slot → slot < from + many → sum_with f many from + g slot ≡ sum_with g many from + f slot
 unfolding sum_with
 changed_sum f g slot same zero from above below = absurd (omega arith)
 changed_sum f g slot same (suc many) from above below = elim (cases_Bool (from == slot)) [
@@ -52,7 +52,7 @@ changed_sum f g slot same (suc many) from above below = elim (cases_Bool (from =
 ]
 
 -- what a slot owes is what its label says
-credit-label : (id : List ℕ) (cidr : CidrValue) (running : Option RunningRequest) → credit_of_slot id cidr running ≡ owed id cidr (label_in running)
+pub credit-label : (id : List ℕ) (cidr : CidrValue) (running : Option RunningRequest) → credit_of_slot id cidr running ≡ owed id cidr (label_in running)
 credit-label id cidr None = refl
 credit-label id cidr (Some running) = refl
 
@@ -90,7 +90,7 @@ entry-within base history new turn within id cidr =
         ∙ ap (owed id cidr) (turn.others other (λ e. differ (sym e)))
         ∙ sym (credit-label id cidr ((cluster_at base history).slots other))
 
-none-owe : (id : List ℕ) (cidr : CidrValue) (many from : ℕ) → sum_with (λ slot. credit_of_slot id cidr None) many from ≡ 0
+pub none-owe : (id : List ℕ) (cidr : CidrValue) (many from : ℕ) → sum_with (λ slot. credit_of_slot id cidr None) many from ≡ 0
 unfolding sum_with
 none-owe id cidr zero from = refl
 none-owe id cidr (suc many) from = let rest = none-owe id cidr many (from + 1) in omega arith

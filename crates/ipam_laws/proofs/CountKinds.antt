@@ -185,7 +185,7 @@ assign-does store r attributes b ordinal held =
 -- ---- blocks that hold what they held
 
 -- what is held in a block that is there
-held-at : (store : Datastore) (cidr : CidrValue) (revision : ℕ) (b : block.BlockValue) → HasAt store (key.Block cidr) revision (record_of.Block b) → (id : List ℕ) → held_count store id cidr ≡ count_by (is_owned id) b.allocations
+pub held-at : (store : Datastore) (cidr : CidrValue) (revision : ℕ) (b : block.BlockValue) → HasAt store (key.Block cidr) revision (record_of.Block b) → (id : List ℕ) → held_count store id cidr ≡ count_by (is_owned id) b.allocations
 held-at store cidr revision b there id = ap (held_in_row id) there
 
 -- a block as it was read holds what is held
@@ -207,7 +207,7 @@ bared-held store node cidr (Some found) h id = as_read-held store cidr found h i
 -- ---- all kinds
 
 -- an operator's changes are of neither blocks nor handles
-changed-apart : (request : Admin) → IsApart (key_changed request)
+pub changed-apart : (request : Admin) → IsApart (key_changed request)
 changed-apart (change_of.Pool pool) = tt
 changed-apart (change_of.Disable name disabled) = tt
 changed-apart (change_of.Reserve new) = tt

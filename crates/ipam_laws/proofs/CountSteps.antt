@@ -55,10 +55,10 @@ IsApart (key.Block cidr) = ⊥
 IsApart (key.Affinity node cidr) = Unit {0}
 IsApart (key.Handle id) = ⊥
 
-apart-block : (k : Key) (cidr : CidrValue) → IsApart k → k ≢ key.Block cidr
+pub apart-block : (k : Key) (cidr : CidrValue) → IsApart k → k ≢ key.Block cidr
 apart-block k cidr apart e = subst (λ (x : Key). IsApart x) e apart
 
-apart-handle : (k : Key) (id : List ℕ) → IsApart k → k ≢ key.Handle id
+pub apart-handle : (k : Key) (id : List ℕ) → IsApart k → k ≢ key.Handle id
 apart-handle k id apart e = subst (λ (x : Key). IsApart x) e apart
 
 pub apart-grow : (store : Datastore) (r : ℕ) (new : Record) (label after : CallLabel) → IsApart (key_of new) → OwesLess label after → CountsGrow store (written store (Put r new)) label after

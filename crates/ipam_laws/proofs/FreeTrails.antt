@@ -168,7 +168,7 @@ free-some what origin again left moment store trail found zero h calm e count = 
 )
 free-some what origin again left moment store trail found (suc more) h calm e count = λ second other agrees.
     let read = Get (key.Block what.block) in
-    let (same, current) = read-current (λ t s l x. Unit {0}) (λ t s l x apart. tt) (λ t s l x stands. tt) moment store other trail what.block found e agrees in
+    let (same, current) = read-current moment store other trail what.block found e agrees in
     let asked = freeing_call what found.1 found.0 in
     let longer : Trail = Did second other asked ∷ Did moment store read ∷ trail in
     let read_there : Idler origin (Did moment store read ∷ trail) = Goes moment store read trail (Elsewhere (λ cidr f. cc f)) calm in

@@ -24,8 +24,8 @@ use Rattle.ipam_model.specs.Moments.{request_in}
 use Rattle.ipam_model.specs.Requests.{told_as, word_of}
 use Rattle.ipam_model.specs.SoundRequest.{IsSoundRequest}
 use Rattle.ipam_laws.proofs.OneRecord.{drop-lawful}
-use Rattle.ipam_laws.proofs.Says.{Any, Says, Tells}
-use Rattle.ipam_laws.proofs.SaysWords.{all-say}
+use Rattle.ipam_laws.proofs.Says.{Says, Tells}
+use Rattle.ipam_laws.proofs.SaysWords.{AllSettled, all-say}
 use Rattle.ipam_laws.proofs.SoundHistory.{sound_law}
 use Rattle.ipam_laws.proofs.SpanPoints.{stands-exactly}
 use Rattle.ipam_laws.proofs.SpanSteps.{owes-exactly}
@@ -39,12 +39,12 @@ IsOn word = answer_in word ≡ None
 
 -- ---- the stores of a trail are sound
 
-unfoldable AllSound : Trail → Type 0
+unfoldable pub AllSound : Trail → Type 0
 AllSound [] = Unit {0}
 AllSound (Did moment store asked ∷ trail) = IsDatastore store × AllSound trail
 AllSound (Got moment at live ∷ trail) = AllSound trail
 
-trail-sound : (span : RequestSpan) → IsDatastore span.base.store → Lawful span.base span.history → (trail : Trail) (upto : ℕ) → IsTrail span upto trail → AllSound trail
+pub trail-sound : (span : RequestSpan) → IsDatastore span.base.store → Lawful span.base span.history → (trail : Trail) (upto : ℕ) → IsTrail span upto trail → AllSound trail
 unfolding IsTrail AllSound
 trail-sound span sound h [] upto is = tt
 trail-sound span sound h (Did moment store asked ∷ trail) upto is = (
@@ -55,7 +55,7 @@ trail-sound span sound h (Got moment at live ∷ trail) upto is = trail-sound sp
 
 -- ---- what is left says so
 
-all-says : Lasts (λ request trail word. AllSound trail → Says request Any trail word)
+pub all-says : Lasts (λ request trail word. AllSound trail → Says request (AllSettled request) trail word)
 unfolding AllSound
 all-says = record {
   starts = λ request sound. all-say request;
@@ -63,7 +63,7 @@ all-says = record {
   feeds = λ request trail next h moment at live sound. ((h sound).1 moment at live).1;
 }
 
-word-tells : (request : Request) (trail : Trail) (word : Word Answer) → IsOn word → Says request Any trail word → Tells request trail (label_of word)
+word-tells : (request : Request) (trail : Trail) (word : Word Answer) → IsOn word → Says request (AllSettled request) trail word → Tells request trail (label_of word)
 word-tells request trail (Ends answer) on h = absurd (cc on)
 word-tells request trail (Asks label asked next) on h = h.0
 word-tells request trail (Waits next) on h = h.0
@@ -107,20 +107,20 @@ abbrev pub SlotIsOn : Option RunningRequest → Type 0
 SlotIsOn None = Unit {0}
 SlotIsOn (Some running) = IsOn running.word
 
-abbrev LeftSays : Request → Trail → Word Answer → Type 0
-LeftSays request trail word = AllSound trail → Says request Any trail word
+abbrev pub LeftSays : Request → Trail → Word Answer → Type 0
+LeftSays request trail word = AllSound trail → Says request (AllSettled request) trail word
 
 -- what is left of the request that runs in the slot
 slot-says : (base : Base) (history : List Entry) → IsDatastore base.store → Lawful base history → (slot : ℕ) → SlotComes LeftSays all-says base history slot ((cluster_at base history).slots slot)
 slot-says base history sound h slot = slot-comes LeftSays all-says base history sound h slot
 
-run-says : (base : Base) (history : List Entry) → IsDatastore base.store → Lawful base history → (slot : ℕ) (running : RunningRequest) → (cluster_at base history).slots slot ≡ Some running → RunComes LeftSays all-says base history slot running
+pub run-says : (base : Base) (history : List Entry) → IsDatastore base.store → Lawful base history → (slot : ℕ) (running : RunningRequest) → (cluster_at base history).slots slot ≡ Some running → RunComes LeftSays all-says base history slot running
 run-says base history sound h slot running runs = subst (λ (o : Option RunningRequest). SlotComes LeftSays all-says base history slot o) runs (slot-says base history sound h slot)
 
-says-of : (base : Base) (history : List Entry) → IsDatastore base.store → Lawful base history → (slot : ℕ) (running : RunningRequest) → (run : RunComes LeftSays all-says base history slot running) → Says running.request Any run.trail running.word
+says-of : (base : Base) (history : List Entry) → IsDatastore base.store → Lawful base history → (slot : ℕ) (running : RunningRequest) → (run : RunComes LeftSays all-says base history slot running) → Says running.request (AllSettled running.request) run.trail running.word
 says-of base history sound h slot running run = run.comes (trail-sound (span_at base history slot) sound h run.trail (moment_of base history) run.is_trail)
 
-fed-on : (request : Request) (trail : Trail) (word : Word Answer) (live : List (List ℕ)) → IsTrue (waits word) → Says request Any trail word → IsOn (after_feed word live)
+fed-on : (request : Request) (trail : Trail) (word : Word Answer) (live : List (List ℕ)) → IsTrue (waits word) → Says request (AllSettled request) trail word → IsOn (after_feed word live)
 fed-on request trail (Ends answer) live t h = absurd (cc t)
 fed-on request trail (Asks label asked next) live t h = absurd (cc t)
 fed-on request trail (Waits next) live t h = (h.1 0 0 live).0

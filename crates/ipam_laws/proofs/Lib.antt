@@ -21,6 +21,7 @@ pub mod CountLemmas
 pub mod CountSteps
 pub mod CountKinds
 pub mod CountHistory
+pub mod CountSinks
 pub mod EventHistory
 pub mod CourseParts
 pub mod AloneHistory
@@ -59,6 +60,9 @@ pub mod BlockSteps
 pub mod BlockHistory
 pub mod Owned
 pub mod NoReturn
+pub mod Ahead
+pub mod QueueSteps
+pub mod QueueHistory
 pub mod OwnersKept
 pub mod OwnersEffects
 pub mod OpenedRows
@@ -79,6 +83,9 @@ pub mod FedDue
 pub mod OwnersMoves
 pub mod LeaksFound
 pub mod OwnersHistory
+pub mod Writing
+pub mod WritesHistory
+pub mod ClaimsHistory
 pub mod CheckAnswers
 pub mod ProbeAnswers
 pub mod HeardAnswers
@@ -115,6 +122,8 @@ pub mod EarlierSpans
 pub mod SpanPoints
 pub mod LabelHistory
 pub mod LabelLaws
+pub mod ExcessSpans
+pub mod ExcessHistory
 pub mod AloneRuns
 pub mod AloneLooks
 pub mod AloneCalls

@@ -97,7 +97,7 @@ running-below base (new ∷ history) sound h slot running e = elim (number-cases
 ]
 
 -- one of the slots owes no more than all
-member-sum : (f : ℕ → ℕ) (many from slot : ℕ) → from ≤ slot → slot < from + many → f slot ≤ sum_by f (range_with_len from many)
+pub member-sum : (f : ℕ → ℕ) (many from slot : ℕ) → from ≤ slot → slot < from + many → f slot ≤ sum_by f (range_with_len from many)
 member-sum f zero from slot above below = absurd (omega arith)
 member-sum f (suc many) from slot above below =
     let both = sum_by-cons f from (range_with_len (from + 1) many) in

@@ -1,5 +1,5 @@
 -- In every lawful history owners change in five ways and no other.
-use Rattle.std.proofs.Common.{◌≡◌, ◌≢◌, ℕ, suc, ◌+◌, ◌-◌, ◌<◌, inl, inr, List, [], ◌∷◌, Option, Some, refl, sym, ap, ◌∙◌, subst, arith}
+use Rattle.std.proofs.Common.{◌≡◌, ◌≢◌, ◌⊎◌, ℕ, suc, ◌+◌, ◌-◌, ◌<◌, inl, inr, List, [], ◌∷◌, Option, Some, refl, sym, ap, ◌∙◌, subst, arith}
 use Rattle.std.specs.Prelude.{option_map}
 use Rattle.std.specs.List.{count_by}
 use Rattle.std.proofs.lemmas.Bool.{leb-true}
@@ -36,7 +36,7 @@ use Rattle.ipam_model.specs.Moments.{GainedInSpan, Loses, Owns, Recorded, reques
 use Rattle.ipam_model.specs.Owners.{Owner, owners}
 use Rattle.ipam_model.specs.OwnerLaw.{Assigned, Collected, Collecting, Deleted, IsLeak, MayGain, OwnersLaw, OwnersMove, Undone}
 use Rattle.ipam_model.specs.Remove.{Leak}
-use Rattle.ipam_laws.proofs.Acting.{Act, Apart, Assigns, Frees, HasListed, MayLose, OfAdd, OfCollect, OfDel, Stands}
+use Rattle.ipam_laws.proofs.Acting.{Act, Assigns, Changes, Claims, Counts, Frees, HasListed, MayLose, OfAdd, OfCollect, OfDel, Reads, Releases, change-apart, claim-apart, read-apart, release-apart, written-apart}
 use Rattle.ipam_laws.proofs.ActParts.{Any, DidAssign, IsApart, IsCurrent, assigning_call, freeing_call}
 use Rattle.ipam_laws.proofs.ActRequests.{all-acts}
 use Rattle.ipam_laws.proofs.Acts.{Acts, Later, Same, Since}
@@ -205,11 +205,20 @@ put-apart store next asked new given put is apart =
     let early = given-row store given (key.Block new.cidr) (store.counter + 1) (record_of.Block new) (sym left ∙ there) in
     absurd (omega arith)
 
+-- a call that puts a block writes one, and its request stands nowhere
+put-of : (span : RequestSpan) (request : Request) (trail : Trail) (next : Datastore) (label : CallLabel) (asked : Call) (new : BlockValue) → CallThere span request trail next → next ≡ behind (seen_now span) asked → label.point ≡ Nowhere → IsPut (seen_now span) next (record_of.Block new)
+    → IsApart asked ⊎ (label.point ≢ Nowhere) → ⊥
+put-of span request trail next label asked new t is nowhere put (inl apart) = put-apart (seen_now span) next asked new (history-given span.base span.history t.consistent.sound t.lawful) put is apart
+put-of span request trail next label asked new t is nowhere put (inr stands) = stands nowhere
+
 -- a call that puts a block while its request stands nowhere assigns or frees
 put-moves : (span : RequestSpan) (request : Request) (trail : Trail) (next : Datastore) (label : CallLabel) (asked : Call) (new : BlockValue) → CallThere span request trail next → next ≡ behind (seen_now span) asked → label.point ≡ Nowhere → IsPut (seen_now span) next (record_of.Block new)
     → Act request trail (seen_now span) label asked → OwnersMove span next
-put-moves span request trail next label asked new t is nowhere put (Apart apart) = absurd (put-apart (seen_now span) next asked new (history-given span.base span.history t.consistent.sound t.lawful) put is apart)
-put-moves span request trail next label asked new t is nowhere put (Stands stands) = absurd (stands nowhere)
+put-moves span request trail next label asked new t is nowhere put (Reads reads) = absurd (put-of span request trail next label asked new t is nowhere put (inl (read-apart asked reads)))
+put-moves span request trail next label asked new t is nowhere put (Counts id of for) = absurd (put-of span request trail next label asked new t is nowhere put (inl (written-apart asked (key.Handle id) of tt)))
+put-moves span request trail next label asked new t is nowhere put (Claims add cidr read origin call was by within) = absurd (put-of span request trail next label asked new t is nowhere put (claim-apart add.node cidr read label asked call))
+put-moves span request trail next label asked new t is nowhere put (Releases tie of call) = absurd (put-of span request trail next label asked new t is nowhere put (release-apart tie (seen_now span) label asked call))
+put-moves span request trail next label asked new t is nowhere put (Changes setting changed of puts same) = absurd (put-of span request trail next label asked new t is nowhere put (inl (change-apart setting changed asked puts same)))
 put-moves span request trail next label asked new t is nowhere put (Assigns attributes target is_call current may) =
     let same : next ≡ behind (seen_now span) (assigning_call attributes target) = is ∙ ap (behind (seen_now span)) is_call in
     elim (granted-cases (seen_now span) (assigning_call attributes target)) [
@@ -234,19 +243,19 @@ step-moves span request trail next label asked t is (ByOwing new credit owes put
 -- ---- every entry
 
 -- what is left of a request acts as it may
-all-act : Lasts (λ request trail word. Acts (Act request) Any trail word)
+pub all-act : Lasts (λ request trail word. Acts (Act request) Any trail word)
 all-act = record {
   starts = all-acts;
   hears = λ request trail label asked next h moment store agrees. (h moment store agrees).1;
   feeds = λ request trail next h. h;
 }
 
-next-is : (base : Base) (history : List Entry) (c : Called) (asked : Call) (answer : Option Answer) → call_made c.slot c.fate asked (reply_of (store_at base history) asked) answer ≡ c → c.fate ≢ Before → store_at base (entry.Called c ∷ history) ≡ behind (store_at base history) asked
+pub next-is : (base : Base) (history : List Entry) (c : Called) (asked : Call) (answer : Option Answer) → call_made c.slot c.fate asked (reply_of (store_at base history) asked) answer ≡ c → c.fate ≢ Before → store_at base (entry.Called c ∷ history) ≡ behind (store_at base history) asked
 unfolding cluster_at after
 next-is base history c asked answer e not_before = ap (λ (x : Called). store_after x (store_at base history)) (sym e) ∙ done-store c.slot c.fate asked (store_at base history) answer not_before
 
 -- a call that failed before it was done leaves the store
-failed-before : (base : Base) (history : List Entry) (c : Called) (asked : Call) (answer : Option Answer) → call_made c.slot c.fate asked (reply_of (store_at base history) asked) answer ≡ c → c.fate ≡ Before → store_at base (entry.Called c ∷ history) ≡ store_at base history
+pub failed-before : (base : Base) (history : List Entry) (c : Called) (asked : Call) (answer : Option Answer) → call_made c.slot c.fate asked (reply_of (store_at base history) asked) answer ≡ c → c.fate ≡ Before → store_at base (entry.Called c ∷ history) ≡ store_at base history
 unfolding cluster_at after
 failed-before base history c asked answer e before =
     let is : call_made c.slot Before asked (reply_of (store_at base history) asked) answer ≡ c = ap (λ (f : Fate). call_made c.slot f asked (reply_of (store_at base history) asked) answer) (sym before) ∙ e in

@@ -1,5 +1,5 @@
 -- Words of which each label says what the calls of the trail have made.
-use Rattle.std.proofs.Common.{◌≡◌, ◌≢◌, ℕ, ◌+◌, Bool, true, false, cond, List, ◌∷◌, Option, Some, None, refl, sym, ap, ◌∙◌}
+use Rattle.std.proofs.Common.{◌≡◌, ◌≢◌, ◌⊎◌, ℕ, ◌+◌, Bool, true, false, cond, List, ◌∷◌, Option, Some, None, refl, sym, ap, ◌∙◌}
 use Rattle.ipam_addr.specs.Shape.{CidrValue}
 use Rattle.ipam_block.specs.HandleShape.{HandleValue}
 use Rattle.ipam_records.specs.declared.call.Call.{Call}
@@ -16,6 +16,8 @@ use Rattle.ipam_records.specs.Label.{CallLabel, Nowhere, idle}
 use Rattle.ipam_records.specs.Said.{Said, Found, Missing, Listed, Can, Exists, Conflict, Full, Spent}
 use Rattle.ipam_records.specs.Sound.{IsDatastore}
 use Rattle.ipam_records.specs.Word.{Word, Ends, Asks, Waits, bound, answer_in}
+use Rattle.ipam_model.specs.declared.answer.Answer.{Answer}
+use Rattle.ipam_model.specs.declared.answer.Answer.TheVariants as answer
 use Rattle.ipam_model.specs.declared.part.Outcome.{Outcome}
 use Rattle.ipam_model.specs.declared.part.Outcome.TheVariants.{Went, Stops}
 use Rattle.ipam_model.specs.declared.part.Stop.{Stop}
@@ -44,9 +46,14 @@ pub record Stays (request : Request) (debt : Debt) (trail : Trail) : Type 0 wher
 abbrev pub Rests : Request → Trail → Type 0
 Rests request trail = Stays request Nothing trail
 
--- whatever an answer is
-abbrev pub Any : {A : Type 0} → Trail → A → Type 0
-Any trail a = Unit {0}
+-- the answer says that the request gave up: it was tried too often, or there were no revisions
+pub data IsGivenUp : Answer → Type 0 where
+  TooOften : (lost claims : ℕ) → IsGivenUp (answer.Again lost claims)
+  NoneLeft : IsGivenUp answer.Spent
+
+-- where a request ends it owes nothing, unless it gave up
+abbrev pub Settled : {A : Type 0} → Request → (A → Answer) → Trail → A → Type 0
+Settled request of_one trail a = Rests request trail ⊎ IsGivenUp (of_one a)
 
 -- ---- words
 

@@ -1,5 +1,5 @@
 -- What both kinds of ADD do in a round: their labels say what their calls have made.
-use Rattle.std.proofs.Common.{◌≡◌, ℕ, zero, suc, ◌+◌, ◌-◌, List, [], ◌∷◌, ◌++◌, Option, Some, None, refl, sym, ap, ◌∙◌, subst}
+use Rattle.std.proofs.Common.{◌≡◌, inl, inr, ℕ, zero, suc, ◌+◌, ◌-◌, List, [], ◌∷◌, ◌++◌, Option, Some, None, refl, sym, ap, ◌∙◌, subst}
 use Rattle.ipam_addr.specs.declared.address.Family.{Family}
 use Rattle.ipam_addr.specs.Shape.{CidrValue}
 use Rattle.ipam_block.specs.Shape.{BlockValue}
@@ -8,6 +8,7 @@ use Rattle.ipam_records.specs.declared.key.Key.TheVariants as key
 use Rattle.ipam_records.specs.declared.key.Kind.TheVariants as kind
 use Rattle.ipam_records.specs.Word.{Ends, Word}
 use Rattle.ipam_model.specs.declared.answer.Scan.{Scan}
+use Rattle.ipam_model.specs.declared.answer.Answer.{Answer}
 use Rattle.ipam_model.specs.declared.outcome.AddAnswer.{AddAnswer}
 use Rattle.ipam_model.specs.declared.outcome.Gift.{Gift}
 use Rattle.ipam_model.specs.declared.outcome.Served.{Served}
@@ -26,7 +27,8 @@ use Rattle.ipam_model.specs.Add.{add_word, NextRound, add_each, add_stops, after
 use Rattle.ipam_model.specs.Assigning.{assign, claim_for, target_in}
 use Rattle.ipam_model.specs.Choice.{Foreign, Lacks, Own, Pick, Picks, Rank, Seen, Unclaimed, Unconfirmed, Unknown, block_at, pick_of}
 use Rattle.ipam_model.specs.Counting.{freeing_one}
-use Rattle.ipam_model.specs.Step.{Part, StopAnswers, all_left, answer_of, part_then, onward, rounds, as_word, stop_answer, stops}
+use Rattle.ipam_model.specs.Step.{Part, StopAnswers, all_left, answer_of, confirmed_so_far, lost_so_far, most_claims, most_lost, part_then, onward, rounds, as_word, stop_answer, stops}
+use Rattle.ipam_model.specs.Told.{of_add}
 use Rattle.ipam_model.specs.Usable.{families_if}
 use Rattle.ipam_laws.proofs.SeenReads.{seen_by_stores}
 use Rattle.ipam_laws.proofs.AddRounds.{HasRead, picked-read}
@@ -34,17 +36,31 @@ use Rattle.ipam_laws.proofs.Debts.{Nothing}
 use Rattle.ipam_laws.proofs.LookedBlocks.{KnowsRead, listed-read, looked-read, looked-revision}
 use Rattle.ipam_laws.proofs.PointTrails.{seen_last}
 use Rattle.ipam_laws.proofs.RequestSteps.{one-picks}
-use Rattle.ipam_laws.proofs.Says.{Any, Clean, Rests, Says, Says-bound, StopsClean, rests-tells, stays-listed, stays-read}
+use Rattle.ipam_laws.proofs.Says.{Clean, IsGivenUp, NoneLeft, Rests, Says, Says-bound, Settled, StopsClean, TooOften, rests-tells, stays-listed, stays-read}
 use Rattle.ipam_laws.proofs.SaysBlocks.{assign-says, free-says}
 use Rattle.ipam_laws.proofs.SaysClaims.{claim_for-says}
 use Rattle.ipam_laws.proofs.Trails.{Did, Trail}
 
 -- ---- parts
 
+-- a procedure that is tried too often, or finds no revisions, says so
+pub record GivesUp {A : Type 0} (of_one : A → Answer) (answers : StopAnswers A) : Type 0 where
+  pub tries : (left : Left) → IsGivenUp (of_one (stop_answer answers left OutOfTries))
+  pub claims : (left : Left) → IsGivenUp (of_one (stop_answer answers left OutOfClaims))
+  pub revisions : (left : Left) → IsGivenUp (of_one (stop_answer answers left NoRevisions))
+
 module _ (request : Request) where
   -- a part that answers
-  pub settles : {A : Type 0} → (answers : StopAnswers A) (part : Part A) (trail : Trail) → Says request (Clean request) trail part → Says request Any trail (as_word answers part)
-  settles answers part trail h = Says-bound request (Clean request) Any (λ outcome. Ends (answer_of answers outcome)) part trail h (λ longer a since k. tt)
+  pub settles : {A : Type 0} → (of_one : A → Answer) (answers : StopAnswers A) → GivesUp of_one answers → (part : Part A) (trail : Trail) → Says request (Clean request) trail part → Says request (Settled request of_one) trail (as_word answers part)
+  settles {A} of_one answers gives part trail h = Says-bound request (Clean request) (Settled request of_one) (λ outcome. Ends (answer_of answers outcome)) part trail h (λ longer outcome since k. ends longer outcome k)
+    where
+      ends : (longer : Trail) (outcome : Outcome A) → Clean request longer outcome → Settled request of_one longer (answer_of answers outcome)
+      ends longer (Went left a) k = inl k
+      ends longer (Stops left OutOfTries) k = inr (gives.tries left)
+      ends longer (Stops left OutOfClaims) k = inr (gives.claims left)
+      ends longer (Stops left NoRoom) k = inl k
+      ends longer (Stops left (CountAtLimit moment)) k = inl k
+      ends longer (Stops left NoRevisions) k = inr (gives.revisions left)
 
   -- a part after another
   pub then-says : {A B : Type 0} → (part : Part A) (follows : Left → A → Part B) (trail : Trail) → Says request (Clean request) trail part → ((longer : Trail) (left : Left) (a : A) → Rests request longer → Says request (Clean request) longer (follows left a)) → Says request (Clean request) trail (part_then part follows)
@@ -173,5 +189,8 @@ module _ (request : AddRequest) where
       ends longer (Went now (Refused answer)) k rest = refuse-says gifts answer now longer k
       ends longer (Stops now why) k rest = stop-says gifts now why longer k
 
-  pub add-says : (trail : Trail) → Rests asks trail → Says asks Any trail (add_word request)
-  add-says trail rests = settles asks add_stops (add_each request [] (families_if request.ipv4 request.ipv6) all_left) trail (each-says (families_if request.ipv4 request.ipv6) [] all_left trail rests)
+  pub add-says : (trail : Trail) → Rests asks trail → Says asks (Settled asks of_add) trail (add_word request)
+  add-says trail rests =
+      settles asks of_add add_stops
+      (record { tries = λ left. TooOften most_lost (confirmed_so_far left); claims = λ left. TooOften (lost_so_far left) most_claims; revisions = λ left. NoneLeft })
+      (add_each request [] (families_if request.ipv4 request.ipv6) all_left) trail (each-says (families_if request.ipv4 request.ipv6) [] all_left trail rests)

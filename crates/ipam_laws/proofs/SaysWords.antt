@@ -1,5 +1,5 @@
 -- The word of each request: its labels say what its calls have made.
-use Rattle.std.proofs.Common.{◌≡◌, ◌≢◌, ℕ, zero, suc, ◌+◌, ◌-◌, Bool, true, false, List, [], ◌∷◌, ◌++◌, map, Option, Some, None, refl, sym, ap, ◌∙◌, subst}
+use Rattle.std.proofs.Common.{◌≡◌, ◌≢◌, inl, ℕ, zero, suc, ◌+◌, ◌-◌, Bool, true, false, List, [], ◌∷◌, ◌++◌, map, Option, Some, None, refl, sym, ap, ◌∙◌, subst}
 use Rattle.ipam_addr.specs.declared.address.Family.{Family}
 use Rattle.ipam_addr.specs.Shape.{AddrValue, CidrValue}
 use Rattle.ipam_pool.specs.declared.pools.Pool.{Pool}
@@ -24,6 +24,9 @@ use Rattle.ipam_model.specs.declared.choice.Choice.TheVariants.{Use, Borrow, Cla
 use Rattle.ipam_model.specs.declared.outcome.AddThisAnswer.TheVariants as add_this
 use Rattle.ipam_model.specs.declared.outcome.AdminAnswer.{AdminAnswer}
 use Rattle.ipam_model.specs.declared.outcome.AdminAnswer.TheVariants as admin
+use Rattle.ipam_model.specs.declared.outcome.CollectAnswer.TheVariants as collected
+use Rattle.ipam_model.specs.declared.outcome.DelAnswer.TheVariants as del
+use Rattle.ipam_model.specs.declared.outcome.ReleaseAnswer.TheVariants as released
 use Rattle.ipam_model.specs.declared.part.Assigned.{Assigned}
 use Rattle.ipam_model.specs.declared.part.Left.{Left}
 use Rattle.ipam_model.specs.declared.part.Stop.TheVariants.{OutOfTries, NoRoom, NoRevisions}
@@ -47,7 +50,7 @@ use Rattle.ipam_model.specs.Moments.{revision_of}
 use Rattle.ipam_model.specs.Reads.{block_said, config_said, handle_said, pools_said, rows_said}
 use Rattle.ipam_model.specs.Remove.{Leak, collect_stops, collect_word, del_blocks, del_stops, del_word, free_leaks, freeing_owner, item_of, leaks, suspects, with_item}
 use Rattle.ipam_model.specs.Requests.{told_as, word_of}
-use Rattle.ipam_model.specs.Step.{Part, all_left, goes, left_of, rounds, stops, tries, write_back}
+use Rattle.ipam_model.specs.Step.{Part, all_left, confirmed_so_far, goes, left_of, lost_so_far, most_claims, most_lost, rounds, stops, tries, without_count, write_back}
 use Rattle.ipam_model.specs.Told.{of_add, of_add_this, of_admin, of_check, of_collect, of_del, of_probe, of_release}
 use Rattle.ipam_model.specs.Usable.{families_if, pool_of, usable_pool_of}
 use Rattle.ipam_laws.proofs.CountLemmas.{same_itself}
@@ -58,12 +61,16 @@ use Rattle.ipam_laws.proofs.LookedBlocks.{KnowsRead, looked-read, looked-revisio
 use Rattle.ipam_laws.proofs.PointTrails.{IsPlain, begins-nowhere, fed-nowhere, seen_last}
 use Rattle.ipam_laws.proofs.RequestSteps.{key-changed, one-picks, owned-picks}
 use Rattle.ipam_laws.proofs.Losses.{back-new}
-use Rattle.ipam_laws.proofs.Says.{Any, Clean, Rests, Says, Says-bound, rests-plain, rests-tells, stays-listed, stays-read, stays-undone, wrote}
-use Rattle.ipam_laws.proofs.SaysAdds.{add-says, five-says, settles, then-says}
+use Rattle.ipam_laws.proofs.Says.{Clean, IsGivenUp, NoneLeft, Rests, Settled, TooOften, Says, Says-bound, rests-plain, rests-tells, stays-listed, stays-read, stays-undone, wrote}
+use Rattle.ipam_laws.proofs.SaysAdds.{GivesUp, add-says, five-says, settles, then-says}
 use Rattle.ipam_laws.proofs.SaysBlocks.{assign-says, free-says}
 use Rattle.ipam_laws.proofs.SaysClaims.{claim_for-says}
 use Rattle.ipam_laws.proofs.SaysRelease.{release-tries}
 use Rattle.ipam_laws.proofs.Trails.{Did, Got, Trail}
+
+-- a procedure that raises no count gives up so
+gives-up : {A : Type 0} → (of_one : A → Answer) (again : ℕ → A) (full spent : A) → ((lost : ℕ) → IsGivenUp (of_one (again lost))) → IsGivenUp (of_one spent) → GivesUp of_one (without_count again full spent)
+gives-up of_one again full spent tries revisions = record { tries = λ left. tries most_lost; claims = λ left. tries (lost_so_far left); revisions = λ left. revisions }
 
 -- ---- DEL and collection
 
@@ -74,13 +81,13 @@ del-blocks id moment (cidr ∷ rest) left trail rests =
     then-says (Del id) (free (freeing_all id cidr) left) (λ now amount. del_blocks id moment rest now) trail
     (free-says (Del id) (freeing_all id cidr) (owned-picks id) left trail rests) (λ longer now amount k. del-blocks id moment rest now longer k)
 
-del-says : (id : List ℕ) → Rests (Del id) [] → Says (Del id) Any [] (del_word id)
+del-says : (id : List ℕ) → Rests (Del id) [] → Says (Del id) (Settled (Del id) of_del) [] (del_word id)
 del-says id rests = (
   rests-tells (Del id) [] rests,
   λ moment store agrees sound.
       let list = map (λ count. count.0) (handle_said id (reply_of store (Get (key.Handle id)))).counts in
       let trail : Trail = Did moment store (Get (key.Handle id)) ∷ [] in
-      settles (Del id) del_stops (del_blocks id moment list all_left) trail
+      settles (Del id) of_del del_stops (gives-up of_del del.Again del.Spent del.Spent (λ lost. TooOften lost 0) NoneLeft) (del_blocks id moment list all_left) trail
       (del-blocks id moment list all_left trail (stays-read (Del id) moment store [] Nothing rests (key.Handle id) (λ n c e. cc e))),
 )
 
@@ -96,7 +103,7 @@ module _ (collect : CollectRequest) where
       (free-says collects (freeing_owner leak.owner leak.block) (one-picks leak.owner.handle leak.block (leak.owner.address.number - leak.block.base) leak.owner.stamp) left trail rests)
       (λ longer now amount k. free-leaks (with_item done (item_of leak amount)) rest now longer k)
 
-  collect-says : Rests collects [] → Says collects Any [] (collect_word collect)
+  collect-says : Rests collects [] → Says collects (Settled collects of_collect) [] (collect_word collect)
   collect-says rests = (
     rests-tells collects [] rests,
     λ b1 first a1 s1.
@@ -112,7 +119,7 @@ module _ (collect : CollectRequest) where
                       let three : Trail = Did b2 second (ListAll kind.Block) ∷ two in
                       let done : Collected = record { b1 = b1; b2 = b2; items = [] } in
                       let all = leaks (suspects collect (rows_said (reply_of first (ListAll kind.Block)))) live (rows_said (reply_of second (ListAll kind.Block))) in
-                      settles collects collect_stops (free_leaks done all all_left) three
+                      settles collects of_collect collect_stops (gives-up of_collect collected.Again collected.Spent collected.Spent (λ lost. TooOften lost 0) NoneLeft) (free_leaks done all all_left) three
                       (free-leaks done all all_left three (stays-listed collects b2 second two Nothing at2 kind.Block)),
                 ),
           ),
@@ -121,27 +128,28 @@ module _ (collect : CollectRequest) where
 
 -- ---- requests that only look
 
-check-each : (request : Request) (id : List ℕ) (p : ℕ) (pools : List Pool) (addresses : List AddrValue) (trail : Trail) → Rests request trail → Says request Any trail (check_each id p pools addresses)
+check-each : (request : Request) (id : List ℕ) (p : ℕ) (pools : List Pool) (addresses : List AddrValue) (trail : Trail) → Rests request trail → Says request (Settled request of_check) trail (check_each id p pools addresses)
 unfolding check_each
-check-each request id p pools [] trail rests = tt
+check-each request id p pools [] trail rests = inl rests
 check-each request id p pools (address ∷ rest) trail rests = by (pool_of address pools) (λ longer at. check-each request id p pools rest longer at)
   where
-    held : (longer : Trail) (moment : ℕ) (b : Bool) → Says request Any longer (check_each id p pools rest) → Says request Any longer (check_held (check_each id p pools rest) address moment b)
-    held longer moment true h = h
-    held longer moment false h = tt
+    held : (longer : Trail) (moment : ℕ) (b : Bool) → Rests request longer → Says request (Settled request of_check) longer (check_each id p pools rest) → Says request (Settled request of_check) longer (check_held (check_each id p pools rest) address moment b)
+    held longer moment true at h = h
+    held longer moment false at h = inl at
 
-    by : (o : Option Pool) → ((longer : Trail) → Rests request longer → Says request Any longer (check_each id p pools rest)) → Says request Any trail (check_in_pool (check_each id p pools rest) id address p o)
-    by None h = tt
+    by : (o : Option Pool) → ((longer : Trail) → Rests request longer → Says request (Settled request of_check) longer (check_each id p pools rest)) → Says request (Settled request of_check) trail (check_in_pool (check_each id p pools rest) id address p o)
+    by None h = inl rests
     by (Some pool) h = (
       rests-tells request trail rests,
       λ moment store agrees sound.
           let cidr = this.slot_holding pool address in
           let asked = Get (key.Block cidr) in
           let longer : Trail = Did moment store asked ∷ trail in
-          held longer moment (holds_at id address (block_said (reply_of store asked))) (h longer (stays-read request moment store trail Nothing rests (key.Block cidr) (λ n c e. cc e))),
+          let at = stays-read request moment store trail Nothing rests (key.Block cidr) (λ n c e. cc e) in
+          held longer moment (holds_at id address (block_said (reply_of store asked))) at (h longer at),
     )
 
-check-says : (id : List ℕ) (addresses : List AddrValue) → Rests (Check id addresses) [] → Says (Check id addresses) Any [] (check_word id addresses)
+check-says : (id : List ℕ) (addresses : List AddrValue) → Rests (Check id addresses) [] → Says (Check id addresses) (Settled (Check id addresses) of_check) [] (check_word id addresses)
 check-says id addresses rests = (
   rests-tells (Check id addresses) [] rests,
   λ moment store agrees sound.
@@ -149,19 +157,19 @@ check-says id addresses rests = (
       (stays-read (Check id addresses) moment store [] Nothing rests key.Pools (λ n c e. cc e)),
 )
 
-probe-says : (request : ProbeRequest) (scans : List Scan) (families : List Family) (trail : Trail) → Rests (Probe request) trail → Says (Probe request) Any trail (probe_each request scans families)
+probe-says : (request : ProbeRequest) (scans : List Scan) (families : List Family) (trail : Trail) → Rests (Probe request) trail → Says (Probe request) (Settled (Probe request) of_probe) trail (probe_each request scans families)
 unfolding probe_each
-probe-says request scans [] trail rests = tt
+probe-says request scans [] trail rests = inl rests
 probe-says request scans (family ∷ families) trail rests =
-    five-says (Probe request) Any family (λ scan seen. probe_choice (probe_each request (scans ++ scan ∷ []) families) (asked_of_probe request family) scan (choice_of (asked_of_probe request family) seen)) trail rests
-    (λ scan what five same at seen. by scan five (choice_of (asked_of_probe request family) what) (probe-says request (scans ++ scan ∷ []) families five at))
+    five-says (Probe request) (Settled (Probe request) of_probe) family (λ scan seen. probe_choice (probe_each request (scans ++ scan ∷ []) families) (asked_of_probe request family) scan (choice_of (asked_of_probe request family) seen)) trail rests
+    (λ scan what five same at seen. by scan five (choice_of (asked_of_probe request family) what) at (probe-says request (scans ++ scan ∷ []) families five at))
   where
-    by : (scan : Scan) (five : Trail) (choice : Choice) → Says (Probe request) Any five (probe_each request (scans ++ scan ∷ []) families) → Says (Probe request) Any five (probe_choice (probe_each request (scans ++ scan ∷ []) families) (asked_of_probe request family) scan choice)
-    by scan five Lacking h = tt
-    by scan five (NoPool place) h = tt
-    by scan five (Use cidr ordinal) h = h
-    by scan five (Claim cidr) h = h
-    by scan five (Borrow cidr ordinal) h = h
+    by : (scan : Scan) (five : Trail) (choice : Choice) → Rests (Probe request) five → Says (Probe request) (Settled (Probe request) of_probe) five (probe_each request (scans ++ scan ∷ []) families) → Says (Probe request) (Settled (Probe request) of_probe) five (probe_choice (probe_each request (scans ++ scan ∷ []) families) (asked_of_probe request family) scan choice)
+    by scan five Lacking at h = inl at
+    by scan five (NoPool place) at h = inl at
+    by scan five (Use cidr ordinal) at h = h
+    by scan five (Claim cidr) at h = h
+    by scan five (Borrow cidr ordinal) at h = h
 
 -- ---- changes of settings
 
@@ -315,24 +323,30 @@ module _ (add : AddRequest) (address : AddrValue) where
   rounds-this zero = round-this (λ now. stops now OutOfTries) (λ now trail rests. tt)
   rounds-this (suc more) = round-this (rounds (this.this_round wanted) more) (rounds-this more)
 
-  this-says : Rests asks [] → Says asks Any [] (this.add_this_word add address)
-  this-says rests = settles asks this.add_this_stops _ [] (rounds-this (all_left.races + all_left.claims) all_left [] rests)
+  this-says : Rests asks [] → Says asks (Settled asks of_add_this) [] (this.add_this_word add address)
+  this-says rests =
+      settles asks of_add_this this.add_this_stops
+      (record { tries = λ left. TooOften most_lost (confirmed_so_far left); claims = λ left. TooOften (lost_so_far left) most_claims; revisions = λ left. NoneLeft }) _ [] (rounds-this (all_left.races + all_left.claims) all_left [] rests)
 
 -- ---- all requests
 
 begins : (request : Request) → Rests request []
 begins request = record { owes = owes-begins; point = begins-nowhere request }
 
-release-says : (node : List ℕ) (cidr : CidrValue) → Rests (Release node cidr) [] → Says (Release node cidr) Any [] (release node cidr)
+release-says : (node : List ℕ) (cidr : CidrValue) → Rests (Release node cidr) [] → Says (Release node cidr) (Settled (Release node cidr) of_release) [] (release node cidr)
 release-says node cidr rests =
     let tie : Tie = record { node = node; block = cidr } in
-    settles (Release node cidr) release_stops (tries (release_once tie) all_left.races all_left.claims) []
+    settles (Release node cidr) of_release release_stops (gives-up of_release released.Again released.Full released.Spent (λ lost. TooOften lost 0) NoneLeft) (tries (release_once tie) all_left.races all_left.claims) []
     (release-tries node cidr all_left.races all_left.claims [] rests (λ newest c e. let none = newest.is in absurd (cc none)))
 
-told : {A : Type 0} → (request : Request) (of_one : A → Answer) (w : Word A) → Says request Any [] w → Says request Any [] (told_as of_one w)
-told request of_one w h = Says-bound request Any Any (λ one. Ends (of_one one)) w [] h (λ longer a since any. tt)
+-- whatever a request is answered, it owes nothing then, unless it gave up
+abbrev pub AllSettled : Request → Trail → Answer → Type 0
+AllSettled request = Settled request (λ told. told)
 
-pub all-say : (request : Request) → Says request Any [] (word_of request)
+told : {A : Type 0} → (request : Request) (of_one : A → Answer) (w : Word A) → Says request (Settled request of_one) [] w → Says request (AllSettled request) [] (told_as of_one w)
+told request of_one w h = Says-bound request (Settled request of_one) (AllSettled request) (λ one. Ends (of_one one)) w [] h (λ longer a since settled. settled)
+
+pub all-say : (request : Request) → Says request (AllSettled request) [] (word_of request)
 unfolding word_of
 all-say (Add request) = told (Add request) of_add (add_word request) (add-says request [] (begins (Add request)))
 all-say (AddThis request address) = told (AddThis request address) of_add_this (this.add_this_word request address) (this-says request address (begins (AddThis request address)))
@@ -342,5 +356,5 @@ all-say (Release node cidr) = told (Release node cidr) of_release (release node 
 all-say (Collect request) = told (Collect request) of_collect (collect_word request) (collect-says request (begins (Collect request)))
 all-say (Admin setting) =
     told (Admin setting) of_admin (change.admin_word setting)
-    (settles (Admin setting) change.admin_stops (tries (change.admin_once setting) all_left.races all_left.claims) [] (admin-tries setting all_left.races all_left.claims [] (begins (Admin setting))))
+    (settles (Admin setting) of_admin change.admin_stops (gives-up of_admin admin.Again admin.Full admin.Spent (λ lost. TooOften lost 0) NoneLeft) (tries (change.admin_once setting) all_left.races all_left.claims) [] (admin-tries setting all_left.races all_left.claims [] (begins (Admin setting))))
 all-say (Probe request) = told (Probe request) of_probe (probe_word request) (probe-says request [] (families_if request.ipv4 request.ipv6) [] (begins (Probe request)))

@@ -130,6 +130,13 @@ record CallTurn (store next : Datastore) (moment : ℕ) (c : Called) (running : 
   reached : CallLabel
   step : Step known store next (label_of running.word) reached
   now : (label_in (goes_on store moment c.answer (Some running)) ≡ reached) ⊎ (label_in (goes_on store moment c.answer (Some running)) ≡ idle)
+  exact : c.fate ≢ After → label_in (goes_on store moment c.answer (Some running)) ≡ reached
+
+-- where a word ends it stands nowhere
+ends-idle : (w : Word Answer) (told : Answer) → answer_in w ≡ Some told → label_to still w ≡ idle
+ends-idle (Ends answer) told e = refl
+ends-idle (Asks label asked next) told e = absurd (cc e)
+ends-idle (Waits next) told e = absurd (cc e)
 
 -- the store after a call that was done
 pub done-store : (slot : ℕ) (fate : Fate) (asked : Call) (store : Datastore) (answer : Option Answer) → fate ≢ Before → store_after (call_made slot fate asked (reply_of store asked) answer) store ≡ behind store asked
@@ -138,15 +145,17 @@ done-store slot After asked store answer done = ap (λ w. store_with w store) (w
 done-store slot Before asked store answer done = absurd (done refl)
 
 done-turn : (store : Datastore) (moment : ℕ) (c : Called) (request : Request) (known : Known) (label : CallLabel) (asked : Call) (next : ℕ → Said → Word Answer) (answer : Option Answer) → c.answer ≡ answer
+    → ((told : Answer) → answer ≡ Some told → c.fate ≢ After → label_to still (next moment (reply_of store asked)) ≡ idle)
     → Step known store (behind store asked) label (label_to still (next moment (reply_of store asked))) → Steps still (more known store (behind store asked)) (next moment (reply_of store asked))
     → CallTurn store (behind store asked) moment c (record { request = request; word = Asks label asked next }) known
-done-turn store moment c request known label asked next (Some answer) e does meets = record {
+done-turn store moment c request known label asked next (Some answer) e ends does meets = record {
   keeps = λ r f. absurd (cc (ap (λ o. goes_on store moment o (Some (record { request = request; word = Asks label asked next }))) e, f));
   reached = label_to still (next moment (reply_of store asked));
   step = does;
   now = inr (ap (λ o. label_in (goes_on store moment o (Some (record { request = request; word = Asks label asked next })))) e);
+  exact = λ well. ap (λ o. label_in (goes_on store moment o (Some (record { request = request; word = Asks label asked next })))) e ∙ sym (ends answer refl well);
 }
-done-turn store moment c request known label asked next None e does meets =
+done-turn store moment c request known label asked next None e ends does meets =
     let goes : goes_on store moment c.answer (Some (record { request = request; word = Asks label asked next })) ≡ Some (record { request = request; word = next moment (reply_of store asked) }) = ap (λ o. goes_on store moment o (Some (record { request = request; word = Asks label asked next }))) e in
     record {
       keeps = λ r f.
@@ -155,6 +164,7 @@ done-turn store moment c request known label asked next None e does meets =
       reached = label_to still (next moment (reply_of store asked));
       step = does;
       now = inl (ap label_in goes ∙ sym (label-is (next moment (reply_of store asked))));
+      exact = λ well. ap label_in goes ∙ sym (label-is (next moment (reply_of store asked)));
     }
 
 fate-turn : (store : Datastore) (moment slot : ℕ) (fate : Fate) (request : Request) (known : Known) (label : CallLabel) (asked : Call) (next : ℕ → Said → Word Answer)
@@ -163,16 +173,17 @@ fate-turn : (store : Datastore) (moment slot : ℕ) (fate : Fate) (request : Req
 fate-turn store moment slot Well request known label asked next does meets =
     let c = call_made slot Well asked (reply_of store asked) (answer_in (next moment (reply_of store asked))) in
     subst (λ (s : Datastore). CallTurn store s moment c (record { request = request; word = Asks label asked next }) known) (sym (done-store slot Well asked store (answer_in (next moment (reply_of store asked))) (λ e. cc e)))
-    (done-turn store moment c request known label asked next (answer_in (next moment (reply_of store asked))) refl does meets)
+    (done-turn store moment c request known label asked next (answer_in (next moment (reply_of store asked))) refl (λ told e well. ends-idle (next moment (reply_of store asked)) told e) does meets)
 fate-turn store moment slot After request known label asked next does meets =
     let c = call_made slot After asked (reply_of store asked) (answer_in (next moment (reply_of store asked))) in
     subst (λ (s : Datastore). CallTurn store s moment c (record { request = request; word = Asks label asked next }) known) (sym (done-store slot After asked store (answer_in (next moment (reply_of store asked))) (λ e. cc e)))
-    (done-turn store moment c request known label asked next (Some Fault) refl does meets)
+    (done-turn store moment c request known label asked next (Some Fault) refl (λ told e well. absurd (well refl)) does meets)
 fate-turn store moment slot Before request known label asked next does meets = record {
   keeps = λ r f. absurd (cc f);
   reached = idle;
   step = Idles refl refl;
   now = inl refl;
+  exact = λ well. refl;
 }
 
 call-turn : (store : Datastore) (moment slot : ℕ) (fate : Fate) (running : RunningRequest) (known : Known) (c : Called) → Agrees known store → Steps still known running.word → call_entry slot fate store moment running.word ≡ Some c → CallTurn store (store_after c store) moment c running known
@@ -204,6 +215,8 @@ pub record Turn (base : Base) (history : List Entry) (new : Entry) : Type 0 wher
   pub reached : CallLabel
   pub step : Step (known_at base history) (store_at base history) (store_at base (new ∷ history)) (label_at base history (slot_of_entry new)) reached
   pub now : (label_at base (new ∷ history) (slot_of_entry new) ≡ reached) ⊎ (label_at base (new ∷ history) (slot_of_entry new) ≡ idle)
+  -- where the call went well, or failed before, or nothing was called
+  pub exact : ((c : Called) → new ≡ entry.Called c → c.fate ≢ After) → label_at base (new ∷ history) (slot_of_entry new) ≡ reached
   pub others : (other : ℕ) → slot_of_entry new ≢ other → label_at base (new ∷ history) other ≡ label_at base history other
 
 EntryKeeps : Base → List Entry → Entry → Type 0
@@ -223,6 +236,7 @@ entry-keeps base history (entry.Began slot request) sound h i = (
     reached = idle;
     step = Idles refl refl;
     now = inl (ap label_in (own-slot slot (fresh_run request) (cluster_at base history).slots) ∙ begun-label request h.1.sound);
+    exact = λ well. ap label_in (own-slot slot (fresh_run request) (cluster_at base history).slots) ∙ begun-label request h.1.sound;
     others = λ other differ. ap label_in (other-slot slot other (fresh_run request) (cluster_at base history).slots differ);
   },
 )
@@ -244,6 +258,7 @@ entry-keeps base history (entry.Fed slot at live) sound h i =
         reached = idle;
         step = Idles refl refl;
         now = inl (ap label_in (own-slot slot fed_slot (cluster_at base history).slots ∙ is) ∙ label);
+        exact = λ well. ap label_in (own-slot slot fed_slot (cluster_at base history).slots ∙ is) ∙ label;
         others = λ other differ. ap label_in (other-slot slot other fed_slot (cluster_at base history).slots differ);
       },
     )
@@ -257,6 +272,7 @@ entry-keeps base history (entry.Stopped slot) sound h i = (
     reached = idle;
     step = Idles refl refl;
     now = inl (ap label_in (own-slot slot None (cluster_at base history).slots));
+    exact = λ well. ap label_in (own-slot slot None (cluster_at base history).slots);
     others = λ other differ. ap label_in (other-slot slot other None (cluster_at base history).slots differ);
   },
 )
@@ -278,6 +294,7 @@ entry-keeps base history (entry.Called c) sound h i =
         reached = turn.reached;
         step = subst (λ (l : CallLabel). Step (known_at base history) store (store_after c store) l turn.reached) (sym before) turn.step;
         now = elim turn.now [ inl reached ↦ inl (then ∙ reached) | inr idles ↦ inr (then ∙ idles) ];
+        exact = λ well. then ∙ turn.exact (well c refl);
         others = λ other differ. ap label_in (other-slot c.slot other slot_then (cluster_at base history).slots differ);
       },
     )

@@ -95,7 +95,7 @@ no-round-behind span moment store asked before between (More m other call longer
 read-cidr : (store : Datastore) (cidr : CidrValue) (found : ℕ × block.BlockValue) → block_said (reply_of store (Get (key.Block cidr))) ≡ Some found → found.1.cidr ≡ cidr
 unfolding AgreesAll
 read-cidr store cidr found e =
-    (read-current (λ t s l x. Unit {0}) (λ t s l x apart. tt) (λ t s l x stands. tt) 0 store store [] cidr found e (
+    (read-current 0 store store [] cidr found e (
       λ k revision one other here there.
           let rows : (revision, one) ≡ (revision, other) = cc (here, there) in ap (λ (row : ℕ × Record). row.1) rows,
       tt,

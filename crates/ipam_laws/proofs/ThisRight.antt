@@ -42,7 +42,7 @@ and-both true b e = e
 and-both false b e = absurd (cc e)
 
 -- the slot of a usable pool that was read is one, and holds the address
-slot-there : (store : Datastore) → IsDatastore store → (asked : Asked) (address : AddrValue) (pool : Pool) → usable_pool_of asked address (pools_said (reply_of store (Get key.Pools))) ≡ Some pool
+pub slot-there : (store : Datastore) → IsDatastore store → (asked : Asked) (address : AddrValue) (pool : Pool) → usable_pool_of asked address (pools_said (reply_of store (Get key.Pools))) ≡ Some pool
     → IsSlotOf pool (this.slot_holding pool address) × Holds (this.slot_holding pool address) address × (holds_address pool.cidr address ≡ true)
 slot-there store sound asked address pool e = from (row_of key.Pools store.rows) refl e
   where

@@ -215,7 +215,7 @@ module _ (request : AddRequest) (address : AddrValue) where
         known : (b : ℕ) (store : Datastore) (rest : Trail) (cidr : CidrValue) (read : BlockRead) → block_said (reply_of store (Get (key.Block cidr))) ≡ read → KnowsRead (Did b store (Get (key.Block cidr)) ∷ rest) read
         known b store rest cidr None e = tt
         known b store rest cidr (Some found) e = λ later agrees.
-            (read-current (λ t s l x. Unit {0}) (λ t s l x apart. tt) (λ t s l x stands. tt) b store later rest cidr found e agrees).1
+            (read-current b store later rest cidr found e agrees).1
 
         pooled : (c : ℕ) (config : Datastore) (p : ℕ) (pools : Datastore) (o : Option Pool) → usable_pool_of (this.asked_of_this request address) address (pools_said (reply_of pools (Get key.Pools))) ≡ o
             → Comes ThisEnds (Did p pools (Get key.Pools) ∷ Did c config (Get key.Config) ∷ trail) (this.this_in_pool wanted next left (record { config = config_said (reply_of config (Get key.Config)); c = c; p = p }) o)

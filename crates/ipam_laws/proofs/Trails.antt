@@ -465,14 +465,14 @@ module _ (P : IsLeft) (lasts : Lasts P) where
   }
 
   -- a call that is done goes on with one step more
-  record CallComes (base : Base) (history : List Entry) (c : Called) (running : RunningRequest) : Type 0 where
-    trail : Trail
-    is_trail : IsTrail (span_at base (entry.Called c ∷ history) c.slot) (moment_of base (entry.Called c ∷ history)) trail
-    calls : AreCalls trail (c ∷ slot_calls c.slot history)
-    comes : P running.request trail (word_after_reply (store_at base history) (cluster_at base history).entries running.word)
-    answers : c.answer ≡ answer_in (word_after_reply (store_at base history) (cluster_at base history).entries running.word)
+  pub record CallComes (base : Base) (history : List Entry) (c : Called) (running : RunningRequest) : Type 0 where
+    pub trail : Trail
+    pub is_trail : IsTrail (span_at base (entry.Called c ∷ history) c.slot) (moment_of base (entry.Called c ∷ history)) trail
+    pub calls : AreCalls trail (c ∷ slot_calls c.slot history)
+    pub comes : P running.request trail (word_after_reply (store_at base history) (cluster_at base history).entries running.word)
+    pub answers : c.answer ≡ answer_in (word_after_reply (store_at base history) (cluster_at base history).entries running.word)
 
-  call-comes : (base : Base) (history : List Entry) → IsDatastore base.store → Lawful base history → (c : Called) (running : RunningRequest) → c.fate ≡ Well
+  pub call-comes : (base : Base) (history : List Entry) → IsDatastore base.store → Lawful base history → (c : Called) (running : RunningRequest) → c.fate ≡ Well
       → call_entry c.slot c.fate (store_at base history) (cluster_at base history).entries running.word ≡ Some c → RunComes base history c.slot running → CallComes base history c running
   unfolding cluster_at after AreCalls
   call-comes base history sound h c running fate e run =

@@ -17,3 +17,4 @@ pub mod owners;
 pub mod records;
 pub mod stands;
 pub mod whole;
+pub mod writes;

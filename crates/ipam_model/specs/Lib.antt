@@ -46,4 +46,3 @@ pub mod Plain
 pub mod ReplyLaw
 pub mod CanAnswer
 pub mod CallsLeft
-pub mod Right

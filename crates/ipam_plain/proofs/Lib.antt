@@ -21,8 +21,4 @@ pub mod Readying
 pub mod Gaining
 pub mod GainingThis
 pub mod Following
-mod Ahead
-mod QueueSteps
-mod QueueHistory
-mod WholeHistories
 pub mod Unfolded

@@ -1,11 +1,9 @@
--- The laws of requests that run alone, of the order of the queue of a block, and all laws in one. And known runs.
+-- The laws of requests that run alone, and known runs.
 pub mod AloneLaws
 pub mod Leaves
 pub mod Ready
 pub mod Gains
 pub mod CountsFollow
-pub mod Queues
-pub mod Whole
 pub mod Setting
 pub mod FirstRun
 pub mod Races

@@ -40,7 +40,7 @@ impl Model for Pass {
 }
 
 impl Pass {
-    ghost use Rattle.ipam_model.specs.Right.{IsRight};
+    ghost use Rattle.ipam_laws.specs.Right.{IsRight};
     ghost use Rattle.ipam_shared.specs.Passes.{runs_in, IsReached};
     ghost use Rattle.ipam_shared.specs.Settling.{KnowsSure};
 

@@ -23,8 +23,8 @@ use Rattle.ipam_laws.proofs.Lift.{Known}
 use Rattle.ipam_laws.proofs.Members.{in-filter}
 use Rattle.ipam_laws.proofs.RequestSteps.{key-changed}
 use Rattle.ipam_laws.proofs.Steps.{IsAsRead, IsPut, taken, bared, Step, Idles, Owes, Finds, Starts, Takes, Confirms, Marks, Looks, Bares, Deletes, Raises, Lowers, LowersOut, Frees, Assigns, Changes}
-use Rattle.ipam_plain.specs.Queues.{ahead_of}
-use Rattle.ipam_plain.proofs.Ahead.{ahead-more, ahead-taken}
+use Rattle.ipam_laws.specs.Queues.{ahead_of}
+use Rattle.ipam_laws.proofs.Ahead.{ahead-more, ahead-taken}
 
 -- ---- a queue after a write
 

@@ -4,7 +4,7 @@ use Rattle.std.specs.Prelude.{Contains, not, ◌==◌}
 use Rattle.std.specs.List.{filter, find}
 use Rattle.std.proofs.lemmas.Bool.{eqb-false}
 use Rattle.ipam_laws.proofs.Members.{in-cons, in-here, in-nothing, in-there}
-use Rattle.ipam_plain.specs.Queues.{ahead_from, ahead_of}
+use Rattle.ipam_laws.specs.Queues.{ahead_from, ahead_of}
 
 -- what is ahead is queued
 pub ahead-queued : (free : ℕ) (queue : List ℕ) (o : ℕ) → Contains (ahead_of free queue) o → Contains queue o

@@ -21,9 +21,9 @@ use Rattle.ipam_laws.proofs.BlockHistory.{drop-block, same-block}
 use Rattle.ipam_laws.proofs.OneRecord.{drop-lawful, key_cases}
 use Rattle.ipam_laws.proofs.SlotSteps.{known-now, known_at, turn-of}
 use Rattle.ipam_laws.proofs.SoundHistory.{history-sound}
-use Rattle.ipam_plain.specs.Queues.{GivenAgainLateLaw, IsFreeThrough, NoneComesAheadLaw, ahead_of}
-use Rattle.ipam_plain.proofs.Ahead.{ahead-queued, found-ahead}
-use Rattle.ipam_plain.proofs.QueueSteps.{Leaves, NextQueue, QueueStep, Same, Writes, next-ahead, step-queues}
+use Rattle.ipam_laws.specs.Queues.{GivenAgainLateLaw, IsFreeThrough, NoneComesAheadLaw, ahead_of}
+use Rattle.ipam_laws.proofs.Ahead.{ahead-queued, found-ahead}
+use Rattle.ipam_laws.proofs.QueueSteps.{Leaves, NextQueue, QueueStep, Same, Writes, next-ahead, step-queues}
 
 -- ---- one step
 

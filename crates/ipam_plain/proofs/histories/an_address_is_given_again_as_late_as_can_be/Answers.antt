@@ -1,5 +1,0 @@
-use Rattle.ipam_plain.proofs.QueueHistory.{given_again_late}
-use Rattle.ipam_plain.proofs.histories.an_address_is_given_again_as_late_as_can_be.Goals as goal
-
-pub returns : goal.returns
-returns c = given_again_late
