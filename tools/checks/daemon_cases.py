@@ -325,19 +325,21 @@ class Play:
     """The steps of clients of a daemon, and what is told.
 
     `serve N M` starts a daemon of N workers, which M clients reach. With no workers the system makes no thread, and
-    with `alone` none but the workers, so that nobody knocks. Each client has a letter: `a > TEXT` sends a line, `a . TEXT`
+    with `alone` none but the workers, so that they write what is told. Each client has a letter: `a > TEXT` sends a line, `a . TEXT`
     a text without a line feed, `a <` reads a line, `a later SECONDS TEXT` sends a line again while it is refused as too
     soon, `a call COMMAND` makes a call over the connection, `a reset` resets it, and `a !` closes it.
 
     `call COMMAND` makes a call by a connection of its own. `gone` moves the file of the database away, and `full` lets
-    the daemon open no more files. `knock` connects and leaves. `works` tells whether the daemon is still at work,
-    `ended` its status and output, `logged` what it logged of clients and calls, and `get START` rows at the end.
+    the daemon open no more files until `room`. `unlinked` removes the socket file and waits for another, and `taken`
+    puts a file in its place. `knock` connects and leaves. `waits SECONDS` waits, and `works` tells whether the daemon
+    is still at work. `ended` tells its status and output, `logged` what it logged of clients and calls, `warned` what
+    else, and `get START` rows at the end.
     """
 
     def __init__(self, program, folder, rows, over_tcp):
         self.program, self.database = program, database_of(folder, rows)
         self.address = own_address() if over_tcp else str(folder / "s")
-        self.daemon, self.clients, self.calls, self.is_full, self.told = None, {}, 0, False, []
+        self.daemon, self.clients, self.calls, self.told = None, {}, 0, []
 
     def played(self, steps):
         try:
@@ -387,7 +389,23 @@ class Play:
 
     def full(self):
         change_limit(self.daemon.process, resource.RLIMIT_NOFILE, 3)
-        self.is_full = True
+
+    def room(self):
+        change_limit(self.daemon.process, resource.RLIMIT_NOFILE)
+
+    def unlinked(self):
+        os.remove(self.address)
+        until = time.monotonic() + PATIENCE
+        while not os.path.exists(self.address) and time.monotonic() < until:
+            time.sleep(0.01)
+
+    def taken(self):
+        other = Path(f"{self.address}.other")
+        other.write_text("text")
+        other.replace(self.address)
+
+    def waits(self, seconds):
+        time.sleep(float(seconds))
 
     def knock(self):
         with contextlib.suppress(ConnectionError, FileNotFoundError):
@@ -397,10 +415,7 @@ class Play:
         return ["at work" if self.daemon.process.poll() is None else "ended"]
 
     def ended(self):
-        """How the daemon ended: where it opens no more files, at one of the next connections."""
-        until = time.monotonic() + PATIENCE
-        while self.is_full and self.daemon.process.poll() is None and time.monotonic() < until:
-            self.knock()
+        """How the daemon ended."""
         return [told_end(self.daemon.process.wait(PATIENCE), Path(f"{self.database}.out").read_text())]
 
     def logged(self):
@@ -409,8 +424,19 @@ class Play:
         lines = []
         while len(lines) < count and time.monotonic() < until:
             time.sleep(0.001)
-            lines = self.daemon.log.read_text().split("\n")[:-1]
+            lines = [line for line in self.lines() if "session" in line]
         return lines[1:count]
+
+    def warned(self):
+        """The lines of the log that are of no session and no connection's first byte."""
+        until, lines = time.monotonic() + PATIENCE, []
+        while not lines and time.monotonic() < until:
+            lines = [line for line in self.lines() if "session" not in line]
+            time.sleep(0.01)
+        return lines
+
+    def lines(self):
+        return self.daemon.log.read_text().split("\n")[:-1]
 
     def end(self):
         """Stops the daemon, and brings the file of its database back."""

@@ -13,9 +13,12 @@ for as long as the program does (`--quick` leaves those out).
 
 import argparse
 import concurrent.futures
+import fcntl
 import json
 import os
 import random
+import re
+import resource
 import signal
 import socket
 import stat
@@ -31,7 +34,9 @@ from kill_client import line_of, owners  # noqa: E402
 PATIENCE = 30
 FIRST_LINE = 10        # seconds that the daemon waits for a first line, and for the rest of a line
 REPLY = 30             # seconds that a call waits for its reply
-AT_ONCE = 3            # seconds in which a daemon ends whose database is gone
+AT_ONCE = 3            # seconds in which a daemon ends whose database is gone, and in which it looks at its socket file
+MB = 1 << 20
+STACK = 256 * MB       # bytes of the stack of a thread, where only so many find room
 MOST_PEAK = 600        # MB of memory at the peak of sixteen long lines
 MOST_AFTER = 60        # MB that stay
 POOL = {"kind": "IPPool", "metadata": {"name": "pods"}, "spec": {"cidr": "10.0.0.0/16"}}
@@ -74,10 +79,12 @@ class Daemon:
                        stdout=subprocess.DEVNULL)
         return self
 
-    def start(self):
+    def start(self, errors=None, before=None):
+        """Starts it. `errors` is where its standard error goes, and `before` is called in its process before it."""
         with open(self.log, "ab") as log:
             words = [self.program, "serve", self.address, str(self.workers)]
-            self.process = subprocess.Popen(words, env=self.env, stdout=log, stderr=log)
+            self.process = subprocess.Popen(words, env=self.env, stdout=log, stderr=log if errors is None else errors,
+                                            preexec_fn=before)
         end = time.monotonic() + PATIENCE
         while time.monotonic() < end:
             try:
@@ -117,6 +124,30 @@ class Daemon:
         """The container of each address, by the rows, once it is stopped."""
         self.ended()
         return owners(self.program, self.env)
+
+    def logged(self):
+        with open(self.log, encoding="utf-8", errors="replace") as log:
+            return log.read()
+
+    def end_of(self, within):
+        """The status with which it ends by itself within so many seconds, and after how many. None where it doesn't."""
+        begin = time.monotonic()
+        try:
+            self.process.wait(within)
+        except subprocess.TimeoutExpired:
+            pass
+        return self.process.poll(), time.monotonic() - begin
+
+    def seconds(self):
+        """The seconds of processor time that it took."""
+        with open(f"/proc/{self.process.pid}/stat", encoding="ascii") as stat_file:
+            fields = stat_file.read().rsplit(")", 1)[1].split()
+        return (int(fields[11]) + int(fields[12])) / os.sysconf("SC_CLK_TCK")
+
+    def limit(self, what, soft=None):
+        """Gives the process this limit, or none of its own."""
+        hard = resource.prlimit(self.process.pid, what)[1]
+        resource.prlimit(self.process.pid, what, (hard if soft is None else soft, hard))
 
     def memory(self, field):
         with open(f"/proc/{self.process.pid}/status", encoding="ascii") as lines:
@@ -201,6 +232,168 @@ def socket_file(seen, program):
     with open(daemon.address, "rb") as file:
         is_kept = file.read() == b"text"
     seen.say("a file that is no socket", f"{out.stdout.decode().strip()}, kept: {is_kept}", out.returncode == 9 and is_kept)
+
+
+# ---- the listener
+
+def few_files(seen, program, over_tcp):
+    """The daemon may open no more files for a while: who connects then is served after it."""
+    where = "TCP" if over_tcp else "a socket file"
+    daemon = Daemon(program, workers=16, over_tcp=over_tcp).apply().start()
+    warning, spent, answered, lives = "no connection was accepted for now", daemon.seconds(), 0, 0
+    for _ in range(3):
+        daemon.limit(resource.RLIMIT_NOFILE, 3)
+        waiting = [daemon.connect() for _ in range(8)]
+        time.sleep(1)
+        lives += daemon.process.poll() is None
+        daemon.limit(resource.RLIMIT_NOFILE)
+        answered += sum(reply(connection, b"{\"feed\":[]}\n") is not None for connection in waiting)
+        for connection in waiting:
+            connection.close()
+    spent, told = daemon.seconds() - spent, daemon.logged().count(warning)
+    seen.say(f"too many open files, three times for a second, {where}",
+             f"alive {lives} of 3 times, {answered} of 24 who connected then were answered, told {told} times, "
+             f"{spent:.2f} s of a processor", lives == 3 and answered == 24 and 1 <= told <= 3 and spent < 1)
+    daemon.ended()
+
+
+def socket_file_gone(seen, program):
+    """The socket file is removed again and again; then once more while the database is gone."""
+    daemon = Daemon(program).apply().start()
+    made, answered, slowest = 0, 0, 0
+    for number in range(5):
+        old, begin = os.stat(daemon.address).st_ino, time.monotonic()
+        os.remove(daemon.address)
+        while not os.path.exists(daemon.address) and time.monotonic() < begin + AT_ONCE:
+            time.sleep(0.01)
+        slowest = max(slowest, time.monotonic() - begin)
+        found = os.stat(daemon.address)
+        made += stat.S_IMODE(found.st_mode) == 0o660 and found.st_ino != old
+        answered += added(daemon, f"c{number}")
+    seen.say("the socket file is removed", f"{made} of 5 times a new one of mode 0660 was there within {slowest:.1f} s, and "
+             f"{answered} of 5 calls by it were answered", made == 5 and answered == 5)
+    session = held(daemon)
+    os.rename(daemon.env["IPAM_DB"], daemon.env["IPAM_DB"] + ".old")
+    os.remove(daemon.address)
+    told = reply(session, line_of("ADD", "gone", "node-0"))
+    status, waited = daemon.end_of(PATIENCE)
+    seen.say("the socket file and the database are removed", f"answered: {told is not None}, status {status} after "
+             f"{waited:.1f} s, left: {os.path.exists(daemon.address)}", told is None and status == 5 and waited < AT_ONCE)
+    daemon.ended()
+
+
+def socket_file_of_another(seen, program):
+    """The socket file of another daemon takes the place of this one's."""
+    daemon, other = Daemon(program).apply().start(), Daemon(program).apply().start()
+    is_up, was = added(daemon, "one"), os.stat(other.address).st_ino
+    os.rename(other.address, daemon.address)
+    status, waited = daemon.end_of(PATIENCE)
+    is_left = os.path.exists(daemon.address) and os.stat(daemon.address).st_ino == was
+    why = [line for line in daemon.logged().splitlines() if line.startswith("ipam:")]
+    seen.say("the socket file of another takes its place", f"status {status} after {waited:.1f} s, the other's file is left: "
+             f"{is_left}, {why}", is_up and status == 9 and waited < AT_ONCE and is_left and len(why) == 1)
+    begin = time.monotonic()
+    while not os.path.exists(other.address) and time.monotonic() < begin + AT_ONCE:
+        time.sleep(0.01)
+    seen.say("the other, at a new file of its own", "answers", added(other, "two"))
+    daemon.ended()
+    other.ended()
+
+
+def why_it_ends(seen, program):
+    """Each end has one line on standard error that says why, with the address or the file."""
+    daemon, taken = Daemon(program).apply().start(), socket.socket()
+    taken.bind(("127.0.0.1", 0))
+    taken.listen(1)
+    folder = tempfile.mkdtemp(prefix="ipam-hostile-")
+    with open(os.path.join(folder, "text"), "wb") as file:
+        file.write(b"text")
+    addresses = {
+        "a relative path": "run/s", "a folder that is missing": f"{folder}/none/s", "a file": f"{folder}/text",
+        "a folder": folder, "a folder in which nothing can be made": "/proc/s", "a path that is too long": f"{folder}/{'x' * 90}",
+        "a live daemon": daemon.address, "a port in use": f"127.0.0.1:{taken.getsockname()[1]}",
+        "an address of another machine": "192.0.2.1:7777", "no port": "127.0.0.1", "a port too large": "127.0.0.1:65536",
+    }
+    right = 0
+    for what, address in addresses.items():
+        other = Daemon(program)
+        out = subprocess.run([program, "serve", address, "1"], env=other.env, capture_output=True, timeout=PATIENCE, text=True)
+        lines = out.stderr.splitlines()
+        is_right = out.stdout == "listen fault\n" and out.returncode == 9 and len(lines) == 1 and address in lines[0]
+        right += is_right
+        print(f"    {what}: {out.stderr.strip()}", flush=True)
+    seen.say("ends of listening that are told with their address and cause", f"{right} of {len(addresses)}",
+             right == len(addresses))
+    os.rename(daemon.env["IPAM_DB"], daemon.env["IPAM_DB"] + ".old")
+    added(daemon, "gone")
+    status, _ = daemon.end_of(PATIENCE)
+    why = [line for line in daemon.logged().splitlines() if line.startswith("ipam:")]
+    seen.say("a database that is gone", f"status {status}, {why}",
+             status == 5 and len(why) == 1 and daemon.env["IPAM_DB"] in why[0])
+    taken.close()
+
+
+# ---- threads, and who reads standard error
+
+def few_threads(seen, program):
+    """There is room for the stacks of two threads: the daemon tells it, and nobody is served by who accepts."""
+    def before():
+        resource.setrlimit(resource.RLIMIT_STACK, (STACK, resource.getrlimit(resource.RLIMIT_STACK)[1]))
+        resource.setrlimit(resource.RLIMIT_AS, (16 * MB + 2 * STACK + STACK // 2, resource.RLIM_INFINITY))
+
+    daemon = Daemon(program, workers=8).apply().start(before=before)
+    told = [line for line in daemon.logged().splitlines() if "workers" in line]
+    silent = [held(daemon) for _ in range(2)]
+    waiting = [daemon.connect() for _ in range(4)]
+    for connection in waiting:
+        connection.sendall(b"{\"feed\":[]}\n")
+    time.sleep(1)
+    silent[0].close()
+    begin, answered = time.monotonic(), 0
+    for connection in waiting:
+        answered += bool(connection.recv(1 << 16))
+        connection.close()
+    seen.say("room for two threads of eight", f"{told}; {answered} of 4 who waited were served within "
+             f"{time.monotonic() - begin:.1f} s once one of two silent clients left", len(told) == 1 and answered == 4)
+    daemon.ended()
+
+
+def unread_errors(seen, program):
+    """Nobody reads standard error, a full pipe. All sessions are served, and what was not written is counted."""
+    daemon, (reads, writes) = Daemon(program, workers=4).apply(), os.pipe()
+    fcntl.fcntl(writes, 1031, 4096)         # (F_SETPIPE_SZ)
+    daemon.start(errors=writes)
+    os.close(writes)
+    count, answered = 3000, 0
+    for _ in range(count):
+        with daemon.connect() as connection:
+            answered += reply(connection, b"{\"feed\":[]}\n") is not None
+    text, until = b"", time.monotonic() + 5
+    os.set_blocking(reads, False)
+    while time.monotonic() < until and b"lines were dropped" not in text:
+        try:
+            text += os.read(reads, 1 << 16)
+        except BlockingIOError:
+            held(daemon).close()
+            count += 1
+            time.sleep(0.05)
+    time.sleep(0.5)
+    try:
+        text += os.read(reads, 1 << 20)
+    except BlockingIOError:
+        pass
+    lines, dropped = text.count(b"session closed"), sum(int(n) for n in re.findall(rb"([0-9]+) lines were dropped", text))
+    seen.say("nobody reads standard error", f"{answered} of 3000 sessions were answered; {lines} lines and {dropped} that were "
+             f"dropped, of {count + 1} sessions", answered == 3000 and dropped > 0 and lines + dropped == count + 1)
+    for _ in range(600):                    # (the pipe is full again)
+        held(daemon).close()
+    os.rename(daemon.env["IPAM_DB"], daemon.env["IPAM_DB"] + ".old")
+    added(daemon, "gone")
+    status, waited = daemon.end_of(PATIENCE)
+    seen.say("the database is gone, and nobody reads standard error", f"status {status} after {waited:.1f} s",
+             status == 5 and waited < AT_ONCE)
+    daemon.ended()
+    os.close(reads)
 
 
 # ---- calls that are killed
@@ -590,11 +783,14 @@ def main():
     over_tcp = not with_files
     parts = []
     if with_files:
-        parts += [(socket_file, program), (killed_before_reading, program, count),
+        parts += [(socket_file, program), (socket_file_gone, program), (socket_file_of_another, program),
+                  (why_it_ends, program), (few_threads, program), (unread_errors, program), (few_files, program, False),
+                  (killed_before_reading, program, count),
                   (killed_while_busy, program, count, False), (killed_at_any_moment, program, count, False)]
     else:
         seen.lacks("a socket file")
-    parts += [(killed_while_busy, program, min(count, 100), True), (killed_at_any_moment, program, min(count, 100), True),
+    parts += [(few_files, program, True), (killed_while_busy, program, min(count, 100), True),
+              (killed_at_any_moment, program, min(count, 100), True),
               (web_page, program)]
     if not words.quick:
         parts += [(silent_clients, program, True)]

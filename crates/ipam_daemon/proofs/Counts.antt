@@ -13,6 +13,11 @@ served_more t t' t'' a a' a'' s et ea =
 pub handed_none : (n h a : ℕ) → IsHandedOver n n h h a a
 handed_none n h a = record { over = 0; here = 0; accepted = refl; handed = refl; attended = refl }
 
+-- nothing was accepted meanwhile
+pub handed_still : (n n' n'' h h' a a' : ℕ) → IsHandedOver n n' h h' a a' → n'' ≡ n' → IsHandedOver n n'' h h' a a'
+handed_still n n' n'' h h' a a' s en =
+    record { over = s.over; here = s.here; accepted = en ∙ s.accepted; handed = s.handed; attended = s.attended }
+
 suc_left : (over here : ℕ) → suc (over + here) ≡ suc over + here
 suc_left over here = grind arith
 

@@ -1,4 +1,4 @@
-//! A channel of connections, or of alerts, whose ends count.
+//! A channel of connections, or of notes, whose ends count.
 ghost use Rattle.std.specs.Prelude.{◌≡◌, true};
 ghost use Rattle.ipam_io.specs.Counts.{next_count};
 
@@ -12,6 +12,17 @@ use std::sync::Wait;
 pub(crate) struct HandingEnd<T> {
     to: Sender<T>,
     handed: u64,
+}
+
+/// What came of an item that was offered.
+#[derive(Clone, Copy)]
+pub(crate) enum Offered {
+    /// It was handed over.
+    Handed,
+    /// There was no room.
+    Full,
+    /// Each other end is gone.
+    Nobody,
 }
 
 /// An end of a channel from which items are taken, each by one of those that have an end.
@@ -45,14 +56,19 @@ impl<T: Drop> HandingEnd<T> {
         })
     }
 
-    /// Hands the item over if there is room at once. Else it comes back.
-    pub(crate) fn offer<R: Wait>(&mut self, rt: &R, item: T) -> Result<(), T> {
+    /// Hands the item over if there is room at once. Else it is dropped.
+    pub(crate) fn offer<R: Wait>(&mut self, rt: &R, item: T) -> Offered {
         match self.to.try_send(rt, item) {
             Ok(()) => {
                 self.handed = self.handed.saturating_add(1);
-                Ok(())
+                Offered::Handed
             }
-            Err(refused) => Err(refused.into_inner()),
+            Err(refused) => {
+                if refused.is_disconnected() {
+                    return Offered::Nobody;
+                }
+                Offered::Full
+            }
         }
     }
 }
@@ -71,7 +87,8 @@ impl<T: Drop> TakingEnd<T> {
 impl<T: Drop> Hands<T> for HandingEnd<T> {
     ghost handed = { λ end. end.handed };
 
-    /// Hands the item over. It comes back where each other end is gone, or there is no memory.
+    /// Hands the item over, once there is room. It comes back where each other end is gone, and nowhere else: a
+    /// channel with room for an item takes no memory later.
     fn hand<R: Wait>(&mut self, rt: &R, item: T) -> Result<(), T> {
         match self.to.send(rt, item) {
             Ok(()) => {

@@ -3,18 +3,20 @@ ghost use Rattle.std.specs.Prelude.{◌≡◌, IfOk};
 ghost use Rattle.std.specs.Arc.{arc_value};
 
 use crate::alarm::Alarm;
+use crate::notes::Notes;
 use ipam_serve::{Opening, Queue};
 use std::alloc::{AllocError, Global};
 use std::sync::Arc;
 
-/// What sessions are served over, their opening, the queue of their requests and the alarm, which each worker
-/// has a part of.
+/// What sessions are served over, their opening, the queue of their requests, and the alarm and the notes, which each
+/// worker has a part of.
 #[derive(Drop)]
 pub(crate) struct Common<S> {
     pub(crate) shared: Arc<S, Global>,
     pub(crate) opening: Arc<Opening, Global>,
     pub(crate) queue: Arc<Queue, Global>,
     pub(crate) alarm: Alarm,
+    pub(crate) notes: Notes,
 }
 
 impl<S: Drop> Common<S> {
@@ -24,6 +26,7 @@ impl<S: Drop> Common<S> {
         shared: S,
         opening: Opening,
         alarm: Alarm,
+        notes: Notes,
     ) -> Result<Common<S>, AllocError>
         ensures { IfOk result (λ common. arc_value common.shared ≡ shared) }
     {
@@ -32,6 +35,7 @@ impl<S: Drop> Common<S> {
             opening: Arc::new(alloc, opening)?,
             queue: Arc::new(alloc, Queue::new())?,
             alarm,
+            notes,
         })
     }
 
@@ -44,6 +48,7 @@ impl<S: Drop> Common<S> {
             opening: Arc::try_clone(&self.opening)?,
             queue: Arc::try_clone(&self.queue)?,
             alarm: self.alarm.another()?,
+            notes: self.notes.another()?,
         })
     }
 }

@@ -1,4 +1,5 @@
 //! What is logged.
+use crate::notes::Note;
 use ipam_serve::SessionEnd;
 use log::{Log, info, warn};
 
@@ -17,7 +18,23 @@ pub fn log_end<R: Log>(rt: &R, end: SessionEnd) {
     }
 }
 
-/// Logs one record of a connection that didn't begin as a session does.
-pub(crate) fn log_refused<R: Log>(rt: &R) {
-    warn!(rt; target: "ipam", "connection closed: it did not begin as a session does");
+/// Logs one record of the note.
+pub(crate) fn log_note<R: Log>(rt: &R, note: Note) {
+    match note {
+        Note::Ended(end) => log_end(rt, end),
+        Note::Refused => {
+            warn!(rt; target: "ipam", "connection closed: it did not begin as a session does");
+        }
+        Note::Passing(cause) => {
+            warn!(rt; target: "ipam", "no connection was accepted for now: {cause}");
+        }
+        Note::Workers(count, asked) => {
+            warn!(rt; target: "ipam", "{count} of {asked} workers: the system makes no more threads");
+        }
+    }
+}
+
+/// Logs that so many records were dropped, since standard error took no more.
+pub(crate) fn log_dropped<R: Log>(rt: &R, count: u64) {
+    warn!(rt; target: "ipam", "{count} lines were dropped, since standard error took no more");
 }

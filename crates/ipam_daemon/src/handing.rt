@@ -1,22 +1,28 @@
-//! Connections are handed over, and each is served. Alerts are handed over so too.
+//! Connections are handed over, and each is served. Notes are handed over so too.
 ghost use Rattle.std.specs.Prelude.{◌≡◌, ℕ, OnSome, IfNone, OnOk, OnErr};
 ghost use Rattle.std.specs.Bool.{OnTrue, OnFalse};
 ghost use Rattle.ipam_io.specs.Counts.{Rose, next_count};
 ghost use Rattle.ipam_daemon.specs.Handing.{IsEachServed, IsHandedOver, IsOneHandedOver, raised};
 
-use ipam_socket::{Failed, Listens};
+use crate::notes::Tells;
+use crate::pausing::Pauses;
+use ipam_socket::{Came, Failed, Listens};
 use log::Log;
 use std::sync::Wait;
 use std::time::Clock;
 
-/// Who serves connections, each to its end, or attends to alerts.
+/// Who serves connections, each to its end, or writes notes.
 pub trait Attends<T> {
     /// How many were served.
     ghost attended: { Self → ℕ };
 
+    /// What it means that this one was served, by who served, before and after.
+    ghost serves: { Self → T → Self → Type 0 };
+
     /// Serves the connection to its end.
     fn attend<R: Wait + Log + Clock>(&mut self, rt: &R, connection: T)
-        ensures { attended self.new ≡ next_count (attended self.old) };
+        ensures counted { attended self.new ≡ next_count (attended self.old) }
+        ensures served { serves self.old connection self.new };
 }
 
 /// Where connections are taken from.
@@ -77,8 +83,9 @@ pub fn work<R: Wait + Log + Clock, T, Q: Takes<T>, W: Attends<T>>(
 }
 
 /// Accepts connections, one after the other, and hands each over, or has it served here where nobody can take it.
-/// It ends where a look before one finds the alarm raised, or accepting fails, and nowhere else.
-#[tactic(auto, using(crate::proofs::Counts::handed_none, crate::proofs::Counts::handed_more))]
+/// Where accepting fails for a cause that passes, it pauses, by the clock of this runtime. It ends where a look before
+/// a try finds the alarm raised, or accepting fails for good, and nowhere else.
+#[tactic(auto, using(crate::proofs::Counts::handed_none, crate::proofs::Counts::handed_more, crate::proofs::Counts::handed_still))]
 pub fn hand_over_all<
     R: Wait + Log + Clock,
     T,
@@ -86,7 +93,15 @@ pub fn hand_over_all<
     H: Hands<T>,
     W: Attends<T>,
     A: Watches,
->(rt: &R, listener: &mut L, to: &mut H, own: &mut W, watch: &mut A) -> Result<(), Failed>
+    N: Tells,
+>(
+    rt: &R,
+    listener: &mut L,
+    to: &mut H,
+    own: &mut W,
+    watch: &mut A,
+    notes: &mut N,
+) -> Result<(), Failed>
     ensures each { IsHandedOver (L.accepted listener.old) (L.accepted listener.new)
         (H.handed to.old) (H.handed to.new) (W.attended own.old) (W.attended own.new) }
     ensures alarm { OnOk result (Rose (A.found watch.old) (A.found watch.new)) }
@@ -94,12 +109,19 @@ pub fn hand_over_all<
     ensures fault { OnErr result (Rose (L.faults listener.old) (L.faults listener.new)) }
     ensures no_fault { OnOk result (L.faults listener.new ≡ L.faults listener.old) }
 {
+    let mut pauses = Pauses::new();
     for _ in rt.forever() {
         if watch.is_raised() {
             return Ok(());
         }
-        let connection = listener.accept()?;
-        hand_one(rt, connection, to, own);
+        match listener.accept()? {
+            Came::One(connection) => {
+                pauses.shorten();
+                hand_one(rt, connection, to, own);
+            }
+            Came::Nobody => pauses = Pauses::new(),
+            Came::Passing(cause) => pauses.wait_out(rt, notes, cause),
+        }
     }
     unreachable!()
 }

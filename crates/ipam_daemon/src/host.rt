@@ -4,7 +4,8 @@ use std::sync::Wait;
 use std::thread::Threads;
 use std::time::Clock;
 
-/// A runtime that makes threads, waits, logs and has a clock, and of which each thread has a copy.
-pub trait Host: Threads + Wait + Log + Clock + Copy + Send + Drop + 'static {}
+/// A runtime that makes threads, waits, logs, writes on standard error and has a clock, and of which each thread has a
+/// copy.
+pub trait Host: Threads + Wait + Log + Eprint + Clock + Copy + Send + Drop + 'static {}
 
-impl<R: Threads + Wait + Log + Clock + Copy + Send + Drop + 'static> Host for R {}
+impl<R: Threads + Wait + Log + Eprint + Clock + Copy + Send + Drop + 'static> Host for R {}

@@ -1,8 +1,8 @@
 //! The daemon: it holds a keeper's rows, and serves sessions at a socket file or over TCP.
 //!
 //! Each worker is a thread with a pass of its own of the shared cluster, and serves one connection
-//! after another. The thread that accepts connections hands them over through a channel. A thread more waits
-//! for the alarm of a worker, and then wakes it by a connection.
+//! after another. The thread that accepts connections hands them over through a channel, and looks at the alarm of
+//! the workers between two tries. A thread more writes what is told on standard error.
 #![tactic(auto)]
 
 mod alarm;
@@ -15,22 +15,26 @@ mod desk;
 mod ending;
 mod handing;
 mod host;
-mod knocker;
+mod last_line;
+mod notes;
 mod opening;
+mod pausing;
 mod served;
 mod serves;
 mod serving;
 mod staff;
 mod worker;
 
-pub use alarm::{Alert, NewAlarm, Watch};
+pub use alarm::{Alarm, Watch};
 pub use ending::log_end;
 pub use handing::{Attends, Hands, Takes, Watches, hand_over_all, work};
 pub use host::Host;
 pub use ipam_serve::{Keeper, Opening, SessionEnd};
-pub use ipam_socket::{Address, Limits, Listens, SocketListener, Stream};
-pub use knocker::Knocker;
+pub use ipam_socket::{Address, Came, Limits, Listens, Passing, SocketListener, Stream};
+pub use last_line::tell_in_time;
+pub use notes::{Note, Tells};
 pub use opening::{new_opening, open_kept};
+pub use pausing::Pauses;
 pub use served::{Served, tell_served};
 pub use serves::Serves;
 pub use serving::{serve, serve_by};

@@ -4,10 +4,9 @@ ghost use Rattle.ipam_shared.specs.Passes.{IsNewlyKept};
 ghost use Rattle.ipam_daemon.specs.Opening.{IsEnd};
 ghost use Rattle.ipam_daemon.specs.Served.{FindsAlarm, ListenFaults, FindsAlarmAtEnd};
 
-use crate::alarm::{Alert, NewAlarm};
-use crate::handing::{Attends, Watches};
+use crate::alarm::Alarm;
+use crate::handing::Watches;
 use crate::host::Host;
-use crate::knocker::Knocker;
 use crate::opening::open_kept;
 use crate::served::Served;
 use crate::staff::engage;
@@ -16,15 +15,16 @@ use ipam_shared::{Keeper, Kept};
 use ipam_socket::{Address, Failed, Limits, Listens, SocketListener, Stream};
 use std::alloc::Global;
 use std::fs::Files;
+use std::io;
 use std::net::{Net, TcpListener, TcpStream};
 
 /// Opens the keeper's rows and serves sessions of this opening at the address, by up to so many workers:
 /// at a socket file, where the address begins with a slash, and else at an IP address or the name of a
 /// host, a colon and a port. It ends where the rows are not opened or listening fails, and at once where a session ended
-/// since the keeper failed to make sure of what it did: a knocker wakes it by a connection to the address. Else it goes on
-/// as long as connections can be accepted.
+/// since the keeper failed to make sure of what it did, once the try to accept a connection is over. Else it goes on
+/// as long as connections can be accepted, now or later.
 /// Sessions that are served by then are left to end with the process. The socket file is removed at the end.
-/// Where its rows are not opened, the keeper comes back.
+/// Where its rows are not opened, the keeper comes back. Where listening failed, the error of the system comes too.
 #[tactic(auto, using(crate::proofs::Ended::nothing_opened))]
 pub fn serve<
     R: Host + Files + Net<Listener = TcpListener, Stream = TcpStream>,
@@ -36,18 +36,15 @@ pub fn serve<
     opening: Opening,
     address: &str,
     workers: u8,
-) -> (Served, Option<D>)
+) -> (Served, Option<D>, Option<io::Error>)
     ensures { IsEnd D.rows D.faults D.name keeper result.0 result.1 }
 {
-    let Ok(knocker) = Knocker::new(rt, alloc, address) else {
-        return (Served::NoMemory, Some(keeper));
-    };
-    let Ok((alarm, mut watch)) = NewAlarm::new(alloc) else {
-        return (Served::NoMemory, Some(keeper));
+    let Ok((alarm, mut watch)) = Alarm::new(alloc) else {
+        return (Served::NoMemory, Some(keeper), None);
     };
     let mut listener = SocketListener::new(&rt, alloc, Address::of(address));
     let limits = Limits::of_session();
-    serve_by(
+    let (served, keeper) = serve_by(
         rt,
         alloc,
         keeper,
@@ -55,24 +52,16 @@ pub fn serve<
         &mut listener,
         workers,
         limits,
-        knocker,
         alarm,
         &mut watch,
-    )
+    );
+    (served, keeper, listener.why())
 }
 
-/// The same over this listener, within these limits and with this knocker, which is to make a connection at
-/// each alert. Where it makes none, serving ends once another one comes. It ends with a fault of listening
-/// exactly where the listener failed, and by the keeper after the rows were opened exactly where the watch found the
+/// The same over this listener and within these limits. It ends with a fault of listening exactly where the listener failed, and by the keeper after the rows were opened exactly where the watch found the
 /// alarm raised, which is to be the watch of this alarm.
 #[tactic(auto, using(crate::proofs::Ended::served_out, crate::proofs::Ended::unopened))]
-pub fn serve_by<
-    R: Host,
-    D: Keeper + Send + Drop + 'static,
-    L: Listens<Stream>,
-    K: Attends<Alert> + Send + Drop + 'static,
-    A: Watches,
->(
+pub fn serve_by<R: Host, D: Keeper + Send + Drop + 'static, L: Listens<Stream>, A: Watches>(
     rt: R,
     alloc: Global,
     keeper: D,
@@ -80,8 +69,7 @@ pub fn serve_by<
     listener: &mut L,
     workers: u8,
     limits: Limits,
-    knocker: K,
-    alarm: NewAlarm,
+    alarm: Alarm,
     watch: &mut A,
 ) -> (Served, Option<D>)
     ensures ended { IsEnd D.rows D.faults D.name keeper result.0 result.1 }
@@ -95,7 +83,7 @@ pub fn serve_by<
     match listener.open() {
         Ok(()) => {
             let served = serve_at(
-                rt, alloc, kept, opening, listener, workers, limits, knocker, alarm, watch,
+                rt, alloc, kept, opening, listener, workers, limits, alarm, watch,
             );
             listener.close();
             (served, None)
@@ -108,13 +96,7 @@ pub fn serve_by<
 }
 
 /// Serves sessions at the listener.
-fn serve_at<
-    R: Host,
-    D: Keeper + Send + Drop + 'static,
-    L: Listens<Stream>,
-    K: Attends<Alert> + Send + Drop + 'static,
-    A: Watches,
->(
+fn serve_at<R: Host, D: Keeper + Send + Drop + 'static, L: Listens<Stream>, A: Watches>(
     rt: R,
     alloc: Global,
     kept: Kept<D>,
@@ -122,8 +104,7 @@ fn serve_at<
     listener: &mut L,
     workers: u8,
     limits: Limits,
-    knocker: K,
-    alarm: NewAlarm,
+    alarm: Alarm,
     watch: &mut A,
 ) -> Served
     requires { IsNewlyKept D.rows D.settled kept }
@@ -131,7 +112,7 @@ fn serve_at<
     ensures listening { ListenFaults result (L.faults listener.old) (L.faults listener.new) }
     ensures alarmed { FindsAlarmAtEnd result (A.found watch.old) (A.found watch.new) }
 {
-    match engage(rt, alloc, kept, opening, workers, limits, knocker, alarm) {
+    match engage(rt, alloc, kept, opening, workers, limits, alarm) {
         Ok(mut staff) => match staff.accept_all(&rt, listener, watch) {
             Ok(()) => Served::KeeperFault,
             Err(Failed) => Served::ListenFault,

@@ -7,12 +7,13 @@ ghost use Rattle.ipam_shared.specs.Passes.{IsNewlyKept, runs_in};
 ghost use Rattle.ipam_daemon.specs.Crews.{IsEngaged};
 ghost use Rattle.ipam_daemon.specs.Handing.{IsHandedOver};
 
-use crate::alarm::{Alert, NewAlarm};
+use crate::alarm::Alarm;
 use crate::channel::{HandingEnd, channel};
 use crate::common::Common;
 use crate::crew::{Crew, hire, start};
-use crate::handing::{Attends, Watches, hand_over_all};
+use crate::handing::{Watches, hand_over_all};
 use crate::host::Host;
+use crate::notes::{Note, Notes, Tells};
 use crate::serves::Serves;
 use crate::worker::Worker;
 use ipam_serve::Opening;
@@ -34,12 +35,13 @@ pub struct Staff<S: Serves, R> {
     threads: Vec<JoinHandle<()>>,
     thread_faults: u64,
     own: Worker<S, R>,
+    notes: Notes,
 }
 
 impl<S: Serves + Drop, C: Clock + Copy + Drop> Staff<S, C> {
     /// Has the connections of the listener served, one by each worker at a time, until accepting fails, or the watch
     /// finds that a session ended since the keeper failed. It doesn't wait for the sessions that are served by then.
-    /// The latter shows once a connection comes, be it by who knocks.
+    /// The latter shows between two tries to accept a connection.
     pub(crate) fn accept_all<R: Wait + Log + Clock, L: Listens<Stream>, A: Watches>(
         &mut self,
         rt: &R,
@@ -53,25 +55,28 @@ impl<S: Serves + Drop, C: Clock + Copy + Drop> Staff<S, C> {
         ensures fault { OnErr result (Rose (L.faults listener.old) (L.faults listener.new)) }
         ensures no_fault { OnOk result (L.faults listener.new ≡ L.faults listener.old) }
     {
-        hand_over_all(rt, listener, &mut self.to, &mut self.own, watch)
+        hand_over_all(
+            rt,
+            listener,
+            &mut self.to,
+            &mut self.own,
+            watch,
+            &mut self.notes,
+        )
     }
 }
 
 /// So many workers over this opening of the cluster, or fewer where the system makes no more threads or the cluster has
-/// no more slots. Each has a part of the alarm. One more thread, if the system makes it, knocks at each alert of theirs.
-pub fn engage<
-    R: Host,
-    D: Keeper + Send + Drop + 'static,
-    K: Attends<Alert> + Send + Drop + 'static,
->(
+/// no more slots. Each has a part of the alarm. One more thread, if the system makes it, writes what they tell, and
+/// else they do.
+pub fn engage<R: Host, D: Keeper + Send + Drop + 'static>(
     rt: R,
     alloc: Global,
     kept: Kept<D>,
     opening: Opening,
     workers: u8,
     limits: Limits,
-    knocker: K,
-    alarm: NewAlarm,
+    alarm: Alarm,
 ) -> Result<Staff<Shared<D>, R>, AllocError>
     requires { IsNewlyKept D.rows D.settled kept }
     ensures engaged { IfOk result (λ staff. IsEngaged workers 0 (vec_len staff.threads) 0 staff.thread_faults staff.own.desk.pass) }
@@ -80,17 +85,11 @@ pub fn engage<
     let Ok((shared, pass)) = Shared::new(alloc, kept) else {
         return Err(AllocError);
     };
-    engage_over(
-        rt, alloc, shared, opening, pass, workers, limits, knocker, alarm,
-    )
+    engage_over(rt, alloc, shared, opening, pass, workers, limits, alarm)
 }
 
 /// The same, over what may be used by many threads.
-fn engage_over<
-    R: Host,
-    S: Serves + Send + Sync + Drop + 'static,
-    K: Attends<Alert> + Send + Drop + 'static,
->(
+fn engage_over<R: Host, S: Serves + Send + Sync + Drop + 'static>(
     rt: R,
     alloc: Global,
     shared: S,
@@ -98,8 +97,7 @@ fn engage_over<
     mut pass: Pass,
     workers: u8,
     limits: Limits,
-    knocker: K,
-    alarm: NewAlarm,
+    alarm: Alarm,
 ) -> Result<Staff<S, R>, AllocError>
     requires own { pass.lock ≡ S.id shared }
     requires first { pass.slot ≡ 0 }
@@ -107,8 +105,8 @@ fn engage_over<
     ensures engaged { IfOk result (λ staff. IsEngaged workers 0 (vec_len staff.threads) 0 staff.thread_faults staff.own.desk.pass) }
     ensures first { IfOk result (λ staff. staff.own.desk.pass.slot ≡ 0) }
 {
-    let NewAlarm { alarm, alerts } = alarm;
-    let common = Common::of(alloc, shared, opening, alarm)?;
+    let (mut notes, told, scribe) = Notes::new(alloc)?;
+    let common = Common::of(alloc, shared, opening, alarm, notes.another()?)?;
     let (to, from) = channel(alloc, MOST_WAITING)?;
     let mut crew = Crew {
         rt: &rt,
@@ -123,13 +121,16 @@ fn engage_over<
         ..
     } = crew;
     let own = Worker::new(alloc, common, pass, rt, limits);
-    // Where the system makes no thread for it, nobody knocks.
-    let _ = start(rt, alerts, knocker);
+    let _ = start(rt, told, scribe);
+    if thread_faults > 0 {
+        notes.tell(&rt, Note::Workers(threads.len(), workers));
+    }
     Ok(Staff {
         to,
         threads,
         thread_faults,
         own,
+        notes,
     })
 }
 

@@ -4,14 +4,15 @@ ghost use Rattle.std.specs.Arc.{arc_value};
 ghost use Rattle.ipam_io.specs.Counts.{next_count};
 ghost use Rattle.ipam_shared.specs.Passes.{runs_in};
 ghost use Rattle.ipam_daemon.specs.Alarms.{IsHeeded};
+ghost use Rattle.ipam_daemon.specs.Connections.{IsAttended, IsServedLent};
 
 use crate::alarm::Alarm;
 use crate::asking::Asking;
 use crate::common::Common;
 use crate::connection::{Sockets, serve_connection};
 use crate::desk::Desk;
-use crate::ending::{log_end, log_refused};
 use crate::handing::Attends;
+use crate::notes::{Note, Notes, Tells};
 use crate::serves::Serves;
 use ipam_io::SystemClock;
 use ipam_serve::{Queued, SessionEnd};
@@ -29,6 +30,7 @@ pub(crate) struct Worker<S: Serves, C> {
     clock: C,
     limits: Limits,
     alarm: Alarm,
+    notes: Notes,
 }
 
 impl<S: Serves, C: Clock + Copy> Worker<S, C> {
@@ -52,6 +54,7 @@ impl<S: Serves, C: Clock + Copy> Worker<S, C> {
             opening,
             queue,
             alarm,
+            notes,
         } = common;
         Worker {
             desk: Desk {
@@ -66,12 +69,14 @@ impl<S: Serves, C: Clock + Copy> Worker<S, C> {
             clock,
             limits,
             alarm,
+            notes,
         }
     }
 
-    /// Serves a session over the connection to its end, which is logged. Exactly where it ended since the keeper
+    /// Serves a session over the connection to its end, which is told. Exactly where it ended since the keeper
     /// failed, it raises the alarm.
     fn serve<R: Wait + Log>(&mut self, rt: &R, stream: &Stream) -> SessionEnd
+        ensures served { IsAttended C S.keeps (arc_value self.old.desk.opening) self.old.desk.pass self.new.desk.pass stream result }
         ensures counted { self.new.desk.sessions ≡ next_count self.old.desk.sessions }
         ensures heeded { IsHeeded result self.old.alarm.raises self.new.alarm.raises }
     {
@@ -82,12 +87,13 @@ impl<S: Serves, C: Clock + Copy> Worker<S, C> {
         let (end, link, gate): (SessionEnd, SocketLink<C, &Stream>, Asking<StreamPeer<'_>>) =
             serve_connection(rt, &mut self.desk, &sockets, stream);
         drop(gate);
-        if link.is_refused() {
-            log_refused(rt);
+        let note = if link.is_refused() {
+            Note::Refused
         } else {
-            log_end(rt, end);
-        }
-        self.alarm.heed(rt, end);
+            Note::Ended(end)
+        };
+        self.alarm.heed(end);
+        self.notes.tell(rt, note);
         end
     }
 }
@@ -95,7 +101,9 @@ impl<S: Serves, C: Clock + Copy> Worker<S, C> {
 impl<S: Serves, C: Clock + Copy> Attends<Stream> for Worker<S, C> {
     ghost attended = { λ worker. worker.desk.sessions };
 
-    /// Serves a session over the connection to its end, which is logged.
+    ghost serves = { λ before stream after. IsServedLent C S.keeps (arc_value before.desk.opening) before.desk.pass after.desk.pass stream };
+
+    /// Serves a session over the connection to its end, which is told.
     fn attend<R: Wait + Log + Clock>(&mut self, rt: &R, stream: Stream) {
         self.serve(rt, &stream);
     }

@@ -6,6 +6,7 @@
 //! and the cases.
 #![tactic(auto)]
 
+mod accepting;
 mod asks;
 mod cases;
 mod counting;

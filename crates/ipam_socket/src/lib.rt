@@ -10,6 +10,7 @@ mod limits;
 mod link;
 mod listener;
 mod listening;
+mod passing;
 mod stream;
 mod waits;
 
@@ -20,6 +21,7 @@ pub use ipam_io::Failed;
 pub use limits::Limits;
 pub use link::SocketLink;
 pub use listener::SocketListener;
-pub use listening::Listens;
+pub use listening::{Came, Listens};
+pub use passing::Passing;
 pub use stream::{Connected, Stream, may_begin};
 pub use waits::Waits;

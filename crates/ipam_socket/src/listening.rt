@@ -1,15 +1,28 @@
 //! What connections come from.
-ghost use Rattle.std.specs.Prelude.{◌≡◌, ℕ, ◌≤◌, OnOk, OnErr};
-ghost use Rattle.ipam_io.specs.Counts.{Rose, next_count};
+ghost use Rattle.std.specs.Prelude.{◌≡◌, ℕ, IfOk, OnOk, OnErr};
+ghost use Rattle.ipam_io.specs.Counts.{Rose};
+ghost use Rattle.ipam_socket.specs.Listening.{CountsCame};
 
+use crate::passing::Passing;
 use ipam_io::Failed;
+
+/// What came of one try to accept a connection.
+#[derive(Drop)]
+pub enum Came<T> {
+    /// A connection.
+    One(T),
+    /// No connection, for as long as one try waits.
+    Nobody,
+    /// No connection, for a cause that passes.
+    Passing(Passing),
+}
 
 /// What connections are accepted from.
 pub trait Listens<T> {
     /// How many connections were accepted.
     ghost accepted: { Self → ℕ };
 
-    /// How often listening or accepting failed.
+    /// How often listening or accepting failed, for a cause that does not pass.
     ghost faults: { Self → ℕ };
 
     /// Begins to listen.
@@ -18,9 +31,9 @@ pub trait Listens<T> {
         ensures fault { OnErr result (Rose (faults self.old) (faults self.new)) }
         ensures no_fault { OnOk result (faults self.new ≡ faults self.old) };
 
-    /// Accepts the next connection, once there is one. It fails where nothing listens.
-    fn accept(&mut self) -> Result<T, Failed>
-        ensures one { OnOk result (accepted self.new ≡ next_count (accepted self.old)) }
+    /// Accepts the next connection, or waits for one for a limited time. It fails where nothing listens.
+    fn accept(&mut self) -> Result<Came<T>, Failed>
+        ensures one { IfOk result (λ came. CountsCame came (accepted self.old) (accepted self.new)) }
         ensures none { OnErr result (accepted self.new ≡ accepted self.old) }
         ensures fault { OnErr result (Rose (faults self.old) (faults self.new)) }
         ensures no_fault { OnOk result (faults self.new ≡ faults self.old) };

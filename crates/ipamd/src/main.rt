@@ -5,6 +5,7 @@ ghost use Rattle.std.specs.Prelude.{IfSome};
 ghost use Rattle.ipam_words.specs.Upkeep.{IsFit, of_upkeep};
 
 mod asking;
+mod causes;
 mod new_file;
 mod process;
 mod serving;

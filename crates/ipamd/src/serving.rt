@@ -1,10 +1,11 @@
 //! The daemon over the database.
-use crate::telling::{tell_no_path, tell_reading, tell_why};
+use crate::causes::Noting;
+use crate::telling::{tell_no_path, tell_reading};
 use ipam_call::{Database, database_named};
-use ipam_daemon::{Host, Opening, Served, new_opening, serve, tell_served};
+use ipam_daemon::{Host, Opening, Served, new_opening, serve, tell_in_time, tell_served};
 use ipam_io::StdSink;
-use ipam_sqlite::{SqliteKeeper, fold_log};
-use ipam_text::Seq;
+use ipam_sqlite::{SqliteKeeper, StorageFault, fold_log};
+use ipam_text::{Seq, Text};
 use sqlite::Alter;
 use std::alloc::{AllocError, Global};
 use std::fs::Files;
@@ -44,12 +45,24 @@ fn serve_file<R: Host + Files + Net<Listener = TcpListener, Stream = TcpStream>>
 ) -> Served {
     tell_reading(rt, path);
     let keeper = SqliteKeeper::open(rt, path);
-    if let Some(why) = keeper.why() {
-        tell_why(rt, path, why);
-    }
-    let served = serve_stored(threads, rt.alloc(), keeper, opening, address, workers);
+    let ended = serve_stored(threads, rt.alloc(), keeper, opening, address, workers);
     let _ = fold_log(rt, path);
+    // Without memory for the line its cause is not told.
+    if let Ok(line) = line_of(rt.alloc(), path, address, &ended) {
+        let _ = tell_in_time(threads, rt.alloc(), Text::of(line));
+    }
+    let Ended { served, .. } = ended;
     served
+}
+
+/// How the daemon ended.
+#[derive(Drop)]
+struct Ended {
+    served: Served,
+    /// Why the database failed the last time, if it did.
+    database: Option<StorageFault>,
+    /// Why listening failed, if it did.
+    listener: Option<io::Error>,
 }
 
 /// Serves what a keeper over this store has. Which store it is stays open here, since what a connection
@@ -64,7 +77,35 @@ fn serve_stored<
     opening: Opening,
     address: &str,
     workers: u8,
-) -> Served {
-    let (served, _keeper) = serve(threads, alloc, keeper, opening, address, workers);
-    served
+) -> Ended {
+    let Ok((keeper, cause)) = Noting::of(alloc, keeper) else {
+        return Ended {
+            served: Served::NoMemory,
+            database: None,
+            listener: None,
+        };
+    };
+    let (served, _keeper, listener) = serve(threads, alloc, keeper, opening, address, workers);
+    Ended {
+        served,
+        database: cause.last(),
+        listener,
+    }
+}
+
+/// The line on standard error of this end.
+fn line_of(alloc: Global, path: &str, address: &str, ended: &Ended) -> Result<String, AllocError> {
+    match (&ended.served, ended.database, ended.listener) {
+        (Served::KeeperFault, Some(why), _) => format!(in alloc; "ipam: {path}: {why}"),
+        (Served::KeeperFault, None, _) => format!(in alloc; "ipam: {path}: the database failed"),
+        (Served::BrokenRows(number, key), _, _) => {
+            let key = key.as_str();
+            format!(in alloc; "ipam: {path}: its rows break the rule OR{number} at {key:?}")
+        }
+        (Served::ListenFault, _, Some(why)) => format!(in alloc; "ipam: {address:?}: {why}"),
+        (Served::ListenFault, _, None) => {
+            format!(in alloc; "ipam: {address:?}: no connection can be accepted any more")
+        }
+        (Served::NoMemory, _, _) => format!(in alloc; "ipam: memory ran out"),
+    }
 }

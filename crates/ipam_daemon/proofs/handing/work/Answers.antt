@@ -7,7 +7,7 @@ pub loop-init : goal.loop-init
 loop-init g c = served_none _ _
 
 pub loop-preserved : goal.loop-preserved
-loop-preserved g c = served_more _ _ _ _ _ _ c.loop.invariant c.in-Some-take.ensures.one c.attend.ensures
+loop-preserved g c = served_more _ _ _ _ _ _ c.loop.invariant c.in-Some-take.ensures.one c.attend.ensures.counted
 
 pub returns-in-None-take-clause-each : goal.returns-in-None-take-clause-each
 returns-in-None-take-clause-each g c =
