@@ -9,6 +9,10 @@ use std::{fmt, io};
 pub enum StorageFault {
     /// Another process, or another keeper of this one, has the file open.
     HeldByAnother,
+    /// A daemon has the file open.
+    HeldByDaemon,
+    /// Others had the file for all of the time that it was waited for.
+    Busy,
     /// The folder that the file is to lie in is not there.
     NoFolder,
     /// The file or its log may not be read and written, or none may be made in the folder.
@@ -48,6 +52,9 @@ impl fmt::Display for StorageFault {
     fn fmt<W: fmt::Write>(&self, f: &mut fmt::Formatter<W>) -> fmt::Result {
         f.write_str(match self {
             StorageFault::HeldByAnother => "another process has the database file open",
+            StorageFault::HeldByDaemon => "a daemon has the database file open",
+            StorageFault::Busy =>
+                "the database is busy: other processes had it for 60 seconds, so that no turn came",
             StorageFault::NoFolder => "the folder of the database file does not exist",
             StorageFault::NoPermission =>
                 "no permission to read and write the database file and its log, or to make them in their folder",

@@ -9,6 +9,7 @@ ghost use Rattle.ipam_sqlite.specs.Answers.{answer_of};
 use crate::fault::{StorageFault, Trouble};
 use crate::opened::{Ask, Opened};
 use crate::opening::{Aim, open_database};
+use crate::place::{Place, Waiting, hold, open_in_turn};
 use crate::tally::Tally;
 use ipam_keeper::{KeepFault, Keeper, Row};
 use sqlite::{Alter, File, FileStore};
@@ -47,7 +48,38 @@ impl SqliteKeeper<FileStore<File>> {
     pub fn open(rt: &HostRuntime, path: &str) -> SqliteKeeper<FileStore<File>>
         ensures { faults_of result ≡ 0 }
     {
-        let opened = match open_database(rt, path, Aim::KeepAtSettle) {
+        SqliteKeeper::over(rt, open_database(rt, path, Aim::KeepAtSettle))
+    }
+}
+
+impl SqliteKeeper<FileStore<File>> {
+    /// The same for a daemon at this address, in its turn. While the place is kept, others see that a daemon has
+    /// the file, and which.
+    pub fn open_served(
+        rt: &HostRuntime,
+        path: &str,
+        address: &str,
+        waiting: Waiting,
+    ) -> (SqliteKeeper<FileStore<File>>, Place)
+        ensures { faults_of result.0 ≡ 0 }
+    {
+        let (opened, turn) = open_in_turn(rt, path, Aim::KeepAtSettle, waiting);
+        let keeper = SqliteKeeper::over(rt, opened);
+        let place = match &keeper.opened {
+            Ok(_) => hold(rt, path, address),
+            Err(_) => Place::none(),
+        };
+        drop(turn);
+        (keeper, place)
+    }
+
+    fn over(
+        rt: &HostRuntime,
+        opened: Result<Option<Opened<FileStore<File>>>, Trouble>,
+    ) -> SqliteKeeper<FileStore<File>>
+        ensures { faults_of result ≡ 0 }
+    {
+        let opened = match opened {
             Ok(Some(opened)) => Ok(opened),
             Ok(None) => Err(Trouble::Fault(StorageFault::NoFile)),
             Err(trouble) => Err(trouble),

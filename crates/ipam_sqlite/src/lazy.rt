@@ -7,7 +7,8 @@ ghost use Rattle.ipam_sqlite.specs.Refused.{IsRefused, AnswersRefused};
 
 use crate::fault::{StorageFault, Trouble};
 use crate::opened::{Ask, Opened};
-use crate::opening::{Aim, open_database};
+use crate::opening::Aim;
+use crate::place::{Place, Waiting, open_in_turn};
 use crate::tally::Tally;
 use ipam_keeper::{KeepFault, Keeper, Row};
 use ipam_text::Text;
@@ -48,7 +49,10 @@ pub struct FileKeeper {
     rt: HostRuntime,
     path: Option<Text>,
     aim: Aim,
+    waiting: Waiting,
     state: State,
+    /// The turn at the file, for as long as that is open.
+    turn: Place,
     tally: Tally,
 }
 
@@ -58,10 +62,13 @@ impl Drop for FileKeeper {
             rt: _,
             path: _,
             aim: _,
+            waiting: _,
             state,
+            turn,
             tally: Tally { faults: _, why: _ },
         } = self;
         let _ = state.fold();
+        drop(turn);
     }
 }
 
@@ -75,7 +82,9 @@ impl FileKeeper {
             rt: *rt,
             path: Text::copied(rt.alloc(), path).ok(),
             aim: Aim::KeepAtOnce,
+            waiting: Waiting::Never,
             state: State::Closed,
+            turn: Place::none(),
             tally: Tally {
                 faults: 0,
                 why: None,
@@ -90,6 +99,15 @@ impl FileKeeper {
     {
         let mut keeper = FileKeeper::new(rt, path);
         keeper.aim = Aim::Look;
+        keeper
+    }
+
+    /// The same keeper, which waits for its file so.
+    pub fn waiting(self, waiting: Waiting) -> FileKeeper
+        ensures { result.tally ≡ self.tally }
+    {
+        let mut keeper = self;
+        keeper.waiting = waiting;
         keeper
     }
 
@@ -123,7 +141,9 @@ impl FileKeeper {
         let Some(path) = &self.path else {
             return Err(Trouble::Memory);
         };
-        match open_database(&self.rt, path.as_str(), self.aim) {
+        let (opened, turn) = open_in_turn(&self.rt, path.as_str(), self.aim, self.waiting);
+        self.turn = turn;
+        match opened {
             Ok(Some(opened)) => self.turn(State::Open(opened)),
             Ok(None) => Ok(()),
             Err(Trouble::Memory) => Err(Trouble::Memory),

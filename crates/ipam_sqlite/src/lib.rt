@@ -9,8 +9,12 @@ mod loading;
 mod names;
 mod opened;
 mod opening;
+mod place;
 mod tally;
+mod turn;
 
 pub use fault::StorageFault;
 pub use keeper::SqliteKeeper;
 pub use lazy::{FileKeeper, fold_log};
+pub use place::{Place, Waiting, daemon_at};
+pub use turn::{Pauses, Tries, wait_for};
