@@ -1,7 +1,9 @@
 -- The daemon that the environment names.
-use Rattle.std.specs.Prelude.{ℕ, List, [], Option, option_map, unwrap_or}
+use Rattle.std.specs.Prelude.{ℕ, List, [], ◌∷◌, Option, Some, None, unwrap_or}
 use Rattle.ipam_call.specs.Values.{text_of}
 
--- the value as an address, which is empty where it is no text
+-- the value as an address, which is empty where it is no text; an empty value names none
 abbrev pub address_of : Option (List ℕ) → Option (List ℕ)
-address_of value = option_map (λ bytes. unwrap_or (text_of bytes) []) value
+address_of None = None
+address_of (Some []) = None
+address_of (Some (byte ∷ more)) = Some (unwrap_or (text_of (byte ∷ more)) [])

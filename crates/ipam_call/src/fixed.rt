@@ -12,6 +12,8 @@ pub enum FixedError {
     Read,
     /// The keeper failed: code 5, `keeper`.
     Keeper,
+    /// The database is busy: code 11. Only the installed plugin tells it.
+    Busy,
     /// Standard input is no configuration, or the line for it would be too long: code 6.
     Undecodable,
     /// A read or a write of the link to the daemon failed: code 111, `link`.
@@ -53,6 +55,7 @@ pub fn fixed_text(version: Version, error: FixedError) -> &'static str
     match error {
         FixedError::Read => text!(version, 5, "read", "input or output fault"),
         FixedError::Keeper => text!(version, 5, "keeper", "input or output fault"),
+        FixedError::Busy => text!(version, 11, "the database is busy", "try again later"),
         FixedError::Undecodable => text!(version, 6, "", "cannot decode network configuration"),
         FixedError::Link => text!(version, 111, "link", "no reply from the daemon"),
         FixedError::Reply => text!(version, 111, "reply", "no reply from the daemon"),
