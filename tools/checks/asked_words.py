@@ -229,7 +229,7 @@ def try_strangers(program, folder):
         compare(f"nobody answers {words}", (10, "link fault\n"), nobody.run(words))
     compare("nobody answers a backup: its file", False, copy.exists())
     compare("a word that no daemon is asked", (2, "unknown words\n"), nobody.run(["gen", "2"]))
-    for words in (["audit", "0"], ["unreserve", "a/b"], ["backup"], ["backup", "a", "b"]):
+    for words in (["audit", "0"], ["unreserve", "a/b"], ["backup"], ["backup", "--json"], ["backup", "-"], ["backup", "a", "b"]):
         compare(f"unknown {words}", (2, "unknown words\n"), nobody.run(words))
     compare("no word", (2, "unknown words\n"), nobody.run([]))
     for number, reply in enumerate(STRANGE):

@@ -11,7 +11,7 @@ use Rattle.ipam_words.specs.declared.kind.RowKind.{RowKind}
 use Rattle.ipam_words.specs.declared.reading.TheConstants.{MOST_WORKERS}
 use Rattle.ipam_words.specs.Kinds.{kind_named}
 use Rattle.ipam_words.specs.Views as seen
-use Rattle.ipam_words.specs.Words.{AreWorkers, AskedCommand, Cni, Play, Apply, Get, Routes, Gen, Show, Audit, Serve, Call, Help, Version, IsSound, address_seen, asked_by, audit_named, command_named, count_named, generated_of, first_named, get_named, get_of, node_view_named, small_number_of, release_named, release_of, routes_named, second_named, serve_named, view_named, word_named, workers_of, workers_within}
+use Rattle.ipam_words.specs.Words.{AreWorkers, AskedCommand, call_named, is_option, Cni, Play, Apply, Get, Routes, Gen, Show, Audit, Serve, Call, Help, Version, IsSound, address_seen, asked_by, audit_named, command_named, count_named, generated_of, first_named, get_named, get_of, node_view_named, small_number_of, release_named, release_of, routes_named, second_named, serve_named, view_named, word_named, workers_of, workers_within}
 
 -- what is asked, if anything, is sound
 abbrev AllSound : Option AskedCommand → Type 0
@@ -85,6 +85,16 @@ serve-sound : (address : List ℕ) (workers : Option ℕ) → AllWorkers workers
 serve-sound address None h = tt
 serve-sound address (Some n) h = h
 
+address-served : (address : List ℕ) (word : List ℕ) → AllSound (serve_named address word)
+unfolding serve_named
+address-served address word =
+    if-sound (is_option address) None (option_map (Serve address) (workers_of word)) tt
+    (serve-sound address (workers_of word) (number-workers (small_number_of word)))
+
+call-sound : (address : List ℕ) → AllSound (call_named address)
+unfolding call_named
+call-sound address = if-sound (is_option address) None (Some (Call address)) tt tt
+
 -- ---- two words, and three
 
 two-words : (word first : List ℕ) → AllSound (first_named word first)
@@ -95,7 +105,7 @@ two-words word first =
     (if-sound (bytes_eq word (codes "routes")) (routes_named first) _ (routes-sound first)
     (if-sound (bytes_eq word (codes "gen")) (count_named first) _ (gen-sound (generated_of first))
     (if-sound (bytes_eq word (codes "audit")) (audit_named first) _ (audit-sound (workers_of first) (number-workers (small_number_of first)))
-    (if-sound (bytes_eq word (codes "call")) (Some (Call first)) None tt tt)))))
+    (if-sound (bytes_eq word (codes "call")) (call_named first) None (call-sound first) tt)))))
 
 block-sound : (node : List ℕ) (read : Result CidrValue AddrFault) → is_name_text node ≡ true → AllSound (release_of node read)
 block-sound node (Ok cidr) named = named
@@ -113,7 +123,7 @@ three-words : (word first second : List ℕ) → AllSound (second_named word fir
 unfolding second_named
 three-words word first second =
     if-sound (bytes_eq word (codes "release")) (release_named first second) _ (release-sound first second)
-    (if-sound (bytes_eq word (codes "serve")) (serve_named first second) _ (serve-sound first (workers_of second) (number-workers (small_number_of second)))
+    (if-sound (bytes_eq word (codes "serve")) (serve_named first second) _ (address-served first second)
     (if-sound (bytes_eq word (codes "show")) (node_view_named first second) None (node-sound first second) tt))
 
 -- ---- what was read

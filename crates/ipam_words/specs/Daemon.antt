@@ -1,7 +1,7 @@
 -- Which daemon is asked, and what.
 use Rattle.std.specs.Prelude.{ℕ, List, [], ◌∷◌, Bool, true, false, codes, bytes_eq, Option, Some, None, option_map, if◌then◌else◌}
 use Rattle.ipam_words.specs.declared.daemon.DaemonAsk.{DaemonAsk}
-use Rattle.ipam_words.specs.Words.{AskedCommand, Cni, Play, Apply, Get, Show, Routes, Release, Gen, Audit, Serve, Call, Help, Version, asked_by, command_named}
+use Rattle.ipam_words.specs.Words.{AskedCommand, Cni, Play, Apply, Get, Show, Routes, Release, Gen, Audit, Serve, Call, Help, Version, asked_by, command_named, is_option}
 
 -- the address of a daemon, and what it is asked
 abbrev pub ask_of : DaemonAsk → List ℕ × Option AskedCommand
@@ -31,11 +31,14 @@ only_of_daemon (Some asked) = if is_of_daemon asked then Some asked else None
 abbrev pub asked_of_daemon : List (List ℕ) → Option AskedCommand
 asked_of_daemon words = only_of_daemon (command_named words)
 
+abbrev pub address_and : (address : List ℕ) (rest : List (List ℕ)) → Option (List ℕ × List (List ℕ))
+address_and address rest = if is_option address then None else Some (address, rest)
+
 -- the address and the words after it, where the words begin with `--daemon`
 abbrev pub address_before : List (List ℕ) → Option (List ℕ × List (List ℕ))
 address_before [] = None
 address_before (first ∷ []) = None
-address_before (first ∷ address ∷ rest) = if bytes_eq first (codes "--daemon") then Some (address, rest) else None
+address_before (first ∷ address ∷ rest) = if bytes_eq first (codes "--daemon") then address_and address rest else None
 
 -- The daemon that is named is asked what can be asked of one, and nothing else.
 abbrev pub by_name : (named : Option (List ℕ)) → Option AskedCommand → Option (List ℕ × Option AskedCommand)

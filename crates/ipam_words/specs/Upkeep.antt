@@ -2,7 +2,7 @@
 use Rattle.std.specs.Prelude.{◌≡◌, ℕ, List, [], ◌∷◌, true, codes, bytes_eq, Option, Some, None, option_map, if◌then◌else◌}
 use Rattle.ipam_addr.specs.Names.{is_name_text}
 use Rattle.ipam_words.specs.Daemon.{address_before}
-use Rattle.ipam_words.specs.Words.{AreWorkers, AskedCommand, command_named}
+use Rattle.ipam_words.specs.Words.{AreWorkers, AskedCommand, command_named, is_option}
 use Rattle.ipam_words.specs.Words as asked
 use Rattle.ipam_words.specs.declared.upkeep.Upkeep.{Upkeep}
 use Rattle.ipam_words.specs.declared.upkeep.Upkeep.TheVariants as upkeep
@@ -34,9 +34,12 @@ IsFit (Unreserve name) = is_name_text name ≡ true
 unfoldable pub unreserve_named : List ℕ → Option Upkept
 unreserve_named name = if is_name_text name then Some (Unreserve name) else None
 
+unfoldable pub backup_named : List ℕ → Option Upkept
+backup_named path = if is_option path then None else Some (Backup path)
+
 unfoldable pub pair_named : (word first : List ℕ) → Option Upkept
 pair_named word first =
-    if bytes_eq word (codes "backup") then Some (Backup first)
+    if bytes_eq word (codes "backup") then backup_named first
     else (if bytes_eq word (codes "unreserve") then unreserve_named first
     else None)
 

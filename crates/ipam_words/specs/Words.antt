@@ -1,5 +1,5 @@
 -- The commands that words name.
-use Rattle.std.specs.Prelude.{◌≡◌, ℕ, ◌^◌, ◌<◌, ◌≤◌, nat_le, nat_lt, List, [], ◌∷◌, ◌&&◌, true, codes, bytes_eq, Option, Some, None, option_and_then, option_map, Result, Ok, Err, if◌then◌else◌}
+use Rattle.std.specs.Prelude.{◌≡◌, ℕ, ◌^◌, ◌<◌, ◌≤◌, ◌==◌, nat_le, nat_lt, List, [], ◌∷◌, ◌&&◌, Bool, true, false, codes, bytes_eq, Option, Some, None, option_and_then, option_map, Result, Ok, Err, if◌then◌else◌}
 use Rattle.std.specs.Str.Parse.{digits_value}
 use Rattle.ipam_json.specs.Path.{is_index}
 use Rattle.ipam_addr.specs.declared.cidrs.AddrFault.{AddrFault}
@@ -44,6 +44,11 @@ asked_by (command.Serve address workers) = Serve address.now workers
 asked_by (command.Call address) = Call address.now
 asked_by command.Help = Help
 asked_by command.Version = Version
+
+-- a word that begins with `-`, which names no file and no address
+abbrev pub is_option : List ℕ → Bool
+is_option [] = false
+is_option (first ∷ more) = first == 45
 
 -- ---- one word
 
@@ -108,6 +113,9 @@ workers_of word = option_and_then workers_within (small_number_of word)
 abbrev pub audit_named : List ℕ → Option AskedCommand
 audit_named word = option_map Audit (workers_of word)
 
+unfoldable pub call_named : List ℕ → Option AskedCommand
+call_named address = if is_option address then None else Some (Call address)
+
 unfoldable pub first_named : (word first : List ℕ) → Option AskedCommand
 first_named word first =
     if bytes_eq word (codes "get") then get_named first
@@ -115,7 +123,7 @@ first_named word first =
     else (if bytes_eq word (codes "routes") then routes_named first
     else (if bytes_eq word (codes "gen") then count_named first
     else (if bytes_eq word (codes "audit") then audit_named first
-    else (if bytes_eq word (codes "call") then Some (Call first)
+    else (if bytes_eq word (codes "call") then call_named first
     else None)))))
 
 -- ---- three words
@@ -127,8 +135,8 @@ release_of node (Err fault) = None
 unfoldable pub release_named : (node block : List ℕ) → Option AskedCommand
 release_named node block = if is_name_text node then release_of node (cidr_reading block) else None
 
-abbrev pub serve_named : (address word : List ℕ) → Option AskedCommand
-serve_named address word = option_map (Serve address) (workers_of word)
+unfoldable pub serve_named : (address word : List ℕ) → Option AskedCommand
+serve_named address word = if is_option address then None else option_map (Serve address) (workers_of word)
 
 unfoldable pub node_view_named : (word node : List ℕ) → Option AskedCommand
 node_view_named word node =

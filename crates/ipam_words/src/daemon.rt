@@ -1,10 +1,10 @@
 //! The daemon that the words ask.
 ghost use Rattle.std.specs.Prelude.{◌≡◌, map, option_map, string_bytes};
-ghost use Rattle.ipam_words.specs.Daemon.{address_before, ask_of, asked_of_daemon, by_name, daemon_asked, is_of_daemon};
+ghost use Rattle.ipam_words.specs.Daemon.{address_and, address_before, ask_of, asked_of_daemon, by_name, daemon_asked, is_of_daemon};
 ghost use Rattle.ipam_words.specs.Words.{asked_by};
 
 use crate::command::Command;
-use crate::reading::read_words;
+use crate::reading::{is_option, read_words};
 
 /// What a daemon is asked.
 #[derive(Clone, Copy)]
@@ -17,7 +17,8 @@ pub struct DaemonAsk<'a> {
 
 /// The daemon that is asked, and what it is asked. Takes no memory.
 ///
-/// Words that begin with `--daemon ADDRESS` ask the daemon at that address, which is any text, what follows.
+/// Words that begin with `--daemon ADDRESS` ask the daemon at that address, which is any text that does not begin
+/// with `-`, what follows.
 /// `apply`, `get`, `show`, `routes NODE` and `release NODE CIDR` ask the daemon that is named, where one is. No
 /// daemon can be asked anything else: after `--daemon ADDRESS` that is none, and other words ask no daemon.
 pub fn daemon_asked<'a>(words: &'a [String], named: Option<&'a str>) -> Option<DaemonAsk<'a>>
@@ -48,15 +49,26 @@ fn asked_by_name<'a>(words: &'a [String], named: Option<&'a str>) -> Option<Daem
 }
 
 /// The address and the words after it, where the words begin with `--daemon`.
-fn address_before<'a>(words: &'a [String]) -> Option<(&'a str, &'a [String])>
+pub(crate) fn address_before<'a>(words: &'a [String]) -> Option<(&'a str, &'a [String])>
     ensures { option_map (λ found. (found.0.now, map string_bytes found.1.now)) result
         ≡ address_before (map string_bytes words.now) }
 {
     match words {
         [first, address, rest @ ..] if first.as_str() == "--daemon" => {
-            Some((address.as_str(), rest))
+            address_and(address.as_str(), rest)
         }
         _ => None,
+    }
+}
+
+fn address_and<'a>(address: &'a str, rest: &'a [String]) -> Option<(&'a str, &'a [String])>
+    ensures { option_map (λ found. (found.0.now, map string_bytes found.1.now)) result
+        ≡ address_and address.now (map string_bytes rest.now) }
+{
+    if is_option(address) {
+        None
+    } else {
+        Some((address, rest))
     }
 }
 

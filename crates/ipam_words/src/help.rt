@@ -8,6 +8,8 @@ audit N and these two ask the daemon in the same way, and the database where no 
   ipam backup FILE     copies all rows of one moment into a new database, FILE
   ipam unreserve NAME  takes back the reservation of that name
 ipam WORD --help writes the lines of one word.
+
+A command over the database waits for its turn at the file, at most 60 seconds. ipam --no-wait WORDS is refused at once.
 ";
 
 /// What stands before a line that goes on from the one before it.

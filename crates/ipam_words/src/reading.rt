@@ -1,6 +1,6 @@
 ghost use Rattle.std.specs.Prelude.{◌≡◌, IfSome, option_map, map, string_bytes};
 ghost use Rattle.ipam_addr.specs.Text.{address_of};
-ghost use Rattle.ipam_words.specs.Words.{IsSound, address_seen, asked_by, audit_named, command_named, count_named, generated_of, first_named, get_named, node_view_named, small_number_of, release_named, routes_named, second_named, serve_named, view_named, word_named, workers_of};
+ghost use Rattle.ipam_words.specs.Words.{IsSound, address_seen, asked_by, audit_named, call_named, command_named, count_named, generated_of, first_named, get_named, is_option, node_view_named, small_number_of, release_named, routes_named, second_named, serve_named, view_named, word_named, workers_of};
 
 use crate::command::Command;
 use crate::kind::RowKind;
@@ -17,7 +17,8 @@ pub const MOST_WORKERS: u8 = 16;
 /// The command that the words name. None where they have no command's form. Takes no memory.
 ///
 /// What follows the command's word is read exactly: a number is decimal, with no sign and no zero before
-/// another digit; a node is a name; a block is written as `Cidr` writes it. An address is any text.
+/// another digit; a node is a name; a block is written as `Cidr` writes it. An address is any text that does not
+/// begin with `-`.
 pub fn read_words(words: &[String]) -> Option<Command<'_>>
     ensures named { option_map asked_by result ≡ command_named (map string_bytes words.now) }
     ensures sound { IfSome result (λ command. IsSound (asked_by command)) }
@@ -57,8 +58,29 @@ fn first_named<'a>(word: &str, first: &'a str) -> Option<Command<'a>>
         "routes" => routes_named(first),
         "gen" => count_named(first),
         "audit" => audit_named(first),
-        "call" => Some(Command::Call(first)),
+        "call" => call_named(first),
         _ => None,
+    }
+}
+
+/// Whether the word begins with `-`, and so names no file and no address.
+pub(crate) fn is_option(word: &str) -> bool
+    ensures { result ≡ is_option word.now }
+{
+    match word.as_bytes() {
+        [first, ..] => *first == b'-',
+        [] => false,
+    }
+}
+
+#[tactic(auto, unfolding(crate::specs::Words::call_named))]
+fn call_named<'a>(address: &'a str) -> Option<Command<'a>>
+    ensures { option_map asked_by result ≡ call_named address.now }
+{
+    if is_option(address) {
+        None
+    } else {
+        Some(Command::Call(address))
     }
 }
 
@@ -156,9 +178,13 @@ fn release_named<'a>(node: &'a str, block: &str) -> Option<Command<'a>>
     }
 }
 
+#[tactic(auto, unfolding(crate::specs::Words::serve_named))]
 fn serve_named<'a>(address: &'a str, word: &str) -> Option<Command<'a>>
     ensures { option_map asked_by result ≡ serve_named address.now word.now }
 {
+    if is_option(address) {
+        return None;
+    }
     match workers_of(word) {
         Some(workers) => Some(Command::Serve(address, workers)),
         None => None,

@@ -1,10 +1,10 @@
 //! Which upkeep words name, and where.
 ghost use Rattle.std.specs.Prelude.{◌≡◌, IfSome, map, option_map, string_bytes};
-ghost use Rattle.ipam_words.specs.Daemon.{address_before};
-ghost use Rattle.ipam_words.specs.Upkeep.{IsFit, help_asked, named_beside, of_upkeep, pair_named, unreserve_named, upkeep_asked, upkeep_at, upkeep_named, upkeep_of};
+ghost use Rattle.ipam_words.specs.Upkeep.{IsFit, backup_named, help_asked, named_beside, of_upkeep, pair_named, unreserve_named, upkeep_asked, upkeep_at, upkeep_named, upkeep_of};
 
 use crate::command::Command;
-use crate::reading::read_words;
+use crate::daemon::address_before;
+use crate::reading::{is_option, read_words};
 use ipam_addr::is_name;
 
 /// What the words of a command line ask of a datastore, beside the commands that `read_words` reads.
@@ -12,7 +12,7 @@ use ipam_addr::is_name;
 pub enum Upkeep<'a> {
     /// Reports what is left over in the rows, by so many workers, 1 to 16.
     Audit(u8),
-    /// Puts all rows into a new database at the path, which is any text.
+    /// Puts all rows into a new database at the path, which is any text that does not begin with `-`.
     Backup(&'a str),
     /// Takes back the reservation of the name, which has the form of one.
     Unreserve(&'a str),
@@ -38,19 +38,6 @@ pub fn upkeep_asked<'a>(words: &'a [String], named: Option<&'a str>) -> Option<U
     match address_before(words) {
         Some((address, rest)) => upkeep_at(Some(address), rest),
         None => upkeep_at(named, words),
-    }
-}
-
-/// The address and the words after it, where the words begin with `--daemon`.
-fn address_before<'a>(words: &'a [String]) -> Option<(&'a str, &'a [String])>
-    ensures { option_map (λ found. (found.0.now, map string_bytes found.1.now)) result
-        ≡ address_before (map string_bytes words.now) }
-{
-    match words {
-        [first, address, rest @ ..] if first.as_str() == "--daemon" => {
-            Some((address.as_str(), rest))
-        }
-        _ => None,
     }
 }
 
@@ -94,9 +81,21 @@ fn pair_named<'a>(word: &str, first: &'a str) -> Option<Upkeep<'a>>
     ensures fit { IfSome result (λ upkeep. IsFit (of_upkeep upkeep)) }
 {
     match word {
-        "backup" => Some(Upkeep::Backup(first)),
+        "backup" => backup_named(first),
         "unreserve" => unreserve_named(first),
         _ => None,
+    }
+}
+
+#[tactic(auto, unfolding(crate::specs::Upkeep::backup_named))]
+fn backup_named<'a>(path: &'a str) -> Option<Upkeep<'a>>
+    ensures named { option_map of_upkeep result ≡ backup_named path.now }
+    ensures fit { IfSome result (λ upkeep. IsFit (of_upkeep upkeep)) }
+{
+    if is_option(path) {
+        None
+    } else {
+        Some(Upkeep::Backup(path))
     }
 }
 
