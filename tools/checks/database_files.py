@@ -192,12 +192,12 @@ READERS = [["get"], ["routes", "a"]]
 WRITERS = [["release", "a", "10.0.0.0/26"], ["apply"]]
 
 
-def fault_over(tally, case, path, commands=tuple(READERS + WRITERS), **more):
-    """Each command is to tell of a fault of the keeper, and a CNI call of code 5."""
+def fault_over(tally, case, path, commands=tuple(READERS + WRITERS), first=(), **more):
+    """Each command is to tell of a fault of the keeper, and a CNI call of code 5. `first` are words before theirs."""
     for words in commands:
-        got = run(path, words, ONE_MORE, **more)
+        got = run(path, [*first, *words], ONE_MORE, **more)
         tally.check(f"{case}, {words[0]}", got.returncode == KEEPER and got.stdout == FAULT and is_told(got), got)
-    got = cni(path, "ADD", **more)
+    got = cni(path, "ADD", first, **more)
     is_code = got.returncode == REFUSED and json.loads(got.stdout)["code"] == 5
     tally.check(f"{case}, cni", is_code, got)
 
@@ -368,14 +368,14 @@ def locks(tally, folder):
     make(path, [TABLE, POOL])
     run(path, ["apply"], ONE_MORE)
     held, _ = holder(path)
-    fault_over(tally, "locked by the program", path)
+    fault_over(tally, "locked by the program", path, first=["--no-wait"])
     let_go(held)
     tally.check("a killed program's lock", run(path, ["get"]).returncode == DONE, "not free")
     for begin in ("begin exclusive", "begin immediate", "begin"):
         conn = sqlite3.connect(path, isolation_level=None)
         conn.execute(begin)
         conn.execute("select * from rows").fetchall()
-        fault_over(tally, f"locked by SQLite, {begin}", path)
+        fault_over(tally, f"locked by SQLite, {begin}", path, first=["--no-wait"])
         conn.execute("commit")
         conn.close()
     tally.check("a lock of SQLite's", names_of(rows_of(path)) == ["r"], rows_of(path))

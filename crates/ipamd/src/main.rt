@@ -7,6 +7,7 @@ ghost use Rattle.ipam_words.specs.Upkeep.{IsFit, of_upkeep};
 mod asking;
 mod causes;
 mod new_file;
+mod plugin;
 mod process;
 mod serving;
 mod stored;
@@ -20,11 +21,14 @@ use ipam_command::NO_MEMORY;
 use ipam_daemon::Host;
 use ipam_io::{StdSink, StdSource};
 use ipam_operator::End;
+use ipam_sqlite::Waiting;
 use ipam_text::Seq;
 use ipam_words::{
     Command, Upkeep, UpkeepAsk, help_asked, help_of, help_text, read_words, upkeep_asked,
+    words_given,
 };
-use process::{entries_of, words_of};
+use plugin::{plugin_folder, run_plugin};
+use process::{all_words, entries_of};
 use serving::serve_database;
 use std::alloc::AllocError;
 use std::fs::Files;
@@ -32,9 +36,13 @@ use std::io;
 use std::net::{Net, TcpListener, TcpStream};
 use std::process::ExitCode;
 use std::thread::Threads;
-use stored::{Use, run_over};
+use stored::{Use, run_over, waiting_of};
 use telling::tell_unknown;
 use upkeep::{ask_upkeep, say};
+
+/// The word before the others for a command that takes no turn at the database, and is refused at once where another
+/// process has it.
+const NO_WAIT: &str = "--no-wait";
 
 fn main(rt: HostRuntime) -> ExitCode {
     match run(&rt, rt) {
@@ -48,9 +56,18 @@ fn run<R: Host + Files + Net<Listener = TcpListener, Stream = TcpStream> + Sync>
     rt: &HostRuntime,
     threads: R,
 ) -> Result<u8, AllocError> {
-    let words = words_of(rt)?;
+    let all = all_words(rt)?;
     let entries = entries_of(rt)?;
-    run_asked(rt, threads, &words, &entries)
+    if let Some(folder) = plugin_folder(rt, all.as_ref())? {
+        return run_plugin(rt, entries, folder.as_str());
+    }
+    let words = words_given(rt.alloc(), all)?;
+    match words.as_slice() {
+        [first, rest @ ..] if first.as_str() == NO_WAIT => {
+            run_asked(rt, threads, rest, &entries, Waiting::Never)
+        }
+        words => run_asked(rt, threads, words, &entries, waiting_of(words)),
+    }
 }
 
 /// The same with the words and the environment.
@@ -59,17 +76,18 @@ fn run_asked<R: Host + Files + Net<Listener = TcpListener, Stream = TcpStream> +
     threads: R,
     words: &[String],
     entries: &[Seq<u8>],
+    waiting: Waiting,
 ) -> Result<u8, AllocError> {
     if let Some(text) = help_for(rt, words)? {
         return Ok(say(rt, text.as_str(), End::Done));
     }
     if let Some(asked) = upkeep_asked(words, daemon_named(entries)) {
-        return run_upkeep(rt, &threads, words, entries, &asked);
+        return run_upkeep(rt, &threads, words, entries, waiting, &asked);
     }
     if let Some(asked) = asked_of(words, entries) {
         return Ok(ask(rt, &asked));
     }
-    run_command_of(rt, threads, words, entries)
+    run_command_of(rt, threads, words, entries, waiting)
 }
 
 /// Runs the command that the words name.
@@ -78,16 +96,27 @@ fn run_command_of<R: Host + Files + Net<Listener = TcpListener, Stream = TcpStre
     threads: R,
     words: &[String],
     entries: &[Seq<u8>],
+    waiting: Waiting,
 ) -> Result<u8, AllocError> {
     match read_words(words) {
         Some(Command::Serve(address, workers)) => serve_database(
-            rt, threads, entries, address, workers,
+            rt, threads, entries, waiting, address, workers,
         ),
         Some(Command::Call(address)) => call_at(rt, entries, address),
-        Some(command) => run_stored(rt, &threads, words, entries, use_of(&command), None),
+        Some(command) => {
+            run_stored(
+                rt,
+                &threads,
+                words,
+                entries,
+                use_of(&command),
+                waiting,
+                None,
+            )
+        }
         None => {
             tell_unknown(rt, words);
-            run_stored(rt, &threads, words, entries, Use::Keep, None)
+            run_stored(rt, &threads, words, entries, Use::Keep, waiting, None)
         }
     }
 }
@@ -117,6 +146,7 @@ fn run_upkeep<R: Threads + Sync>(
     threads: &R,
     words: &[String],
     entries: &[Seq<u8>],
+    waiting: Waiting,
     asked: &UpkeepAsk<'_>,
 ) -> Result<u8, AllocError>
     requires { IsFit (of_upkeep asked.now.upkeep) }
@@ -128,11 +158,23 @@ fn run_upkeep<R: Threads + Sync>(
         Upkeep::Unreserve(_) => Use::Keep,
         Upkeep::Audit(_) | Upkeep::Backup(_) => Use::Look,
     };
-    run_stored(rt, threads, words, entries, aim, Some(&asked.upkeep))
+    run_stored(
+        rt,
+        threads,
+        words,
+        entries,
+        aim,
+        waiting,
+        Some(&asked.upkeep),
+    )
 }
 
 /// Makes a CNI call of the daemon, over standard input and output.
-fn call_at(rt: &HostRuntime, entries: &[Seq<u8>], address: &str) -> Result<u8, AllocError> {
+pub(crate) fn call_at(
+    rt: &HostRuntime,
+    entries: &[Seq<u8>],
+    address: &str,
+) -> Result<u8, AllocError> {
     let variables = call_variables(rt.alloc(), entries)?;
     let mut source = StdSource::new(rt.stdin());
     let mut sink = StdSink::new(io::writer(rt));
@@ -146,11 +188,14 @@ fn run_stored<R: Threads + Sync>(
     words: &[String],
     entries: &[Seq<u8>],
     aim: Use,
+    waiting: Waiting,
     upkeep: Option<&Upkeep<'_>>,
 ) -> Result<u8, AllocError>
     requires { IfSome upkeep (λ asked. IsFit (of_upkeep asked.now)) }
 {
     let variables = call_variables(rt.alloc(), entries)?;
     let database = database_named(rt.alloc(), entries)?;
-    Ok(run_over(rt, threads, words, &variables, &database, aim, upkeep))
+    Ok(run_over(
+        rt, threads, words, &variables, &database, aim, waiting, upkeep,
+    ))
 }

@@ -1,6 +1,5 @@
 //! What the process was given: its words and its environment.
 use ipam_text::Seq;
-use ipam_words::words_given;
 use std::alloc::AllocError;
 use std::env;
 use std::env::FillError;
@@ -10,13 +9,8 @@ use std::rt::Env;
 /// The bytes that an entry of the environment is first read into.
 const FIRST_ROOM: usize = 256;
 
-/// The words after the program's name. Where one is no text, they name no command.
-pub(crate) fn words_of(rt: &HostRuntime) -> Result<Vec<String>, AllocError> {
-    words_given(rt.alloc(), all_words(rt)?)
-}
-
 /// All words of the command line, with the program's name. None where one is no text.
-fn all_words(rt: &HostRuntime) -> Result<Option<Vec<String>>, AllocError> {
+pub(crate) fn all_words(rt: &HostRuntime) -> Result<Option<Vec<String>>, AllocError> {
     match env::args(rt) {
         Ok(args) => Ok(Some(kept(rt, args)?)),
         Err(error) if error.kind() == ErrorKind::InvalidData => Ok(None),

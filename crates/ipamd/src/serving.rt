@@ -4,7 +4,7 @@ use crate::telling::{tell_no_path, tell_reading};
 use ipam_call::{Database, database_named};
 use ipam_daemon::{Host, Opening, Served, new_opening, serve, tell_in_time, tell_served};
 use ipam_io::StdSink;
-use ipam_sqlite::{SqliteKeeper, StorageFault, fold_log};
+use ipam_sqlite::{SqliteKeeper, StorageFault, Waiting, fold_log};
 use ipam_text::{Seq, Text};
 use sqlite::Alter;
 use std::alloc::{AllocError, Global};
@@ -18,13 +18,22 @@ pub(crate) fn serve_database<R: Host + Files + Net<Listener = TcpListener, Strea
     rt: &HostRuntime,
     threads: R,
     entries: &[Seq<u8>],
+    waiting: Waiting,
     address: &str,
     workers: u8,
 ) -> Result<u8, AllocError> {
     let served = match database_named(rt.alloc(), entries)? {
         Database::File(path) => {
             let opening = new_opening(rt, rt.alloc())?;
-            serve_file(rt, threads, path.as_str(), opening, address, workers)
+            serve_file(
+                rt,
+                threads,
+                path.as_str(),
+                waiting,
+                opening,
+                address,
+                workers,
+            )
         }
         Database::NoPath => {
             tell_no_path(rt);
@@ -39,12 +48,13 @@ fn serve_file<R: Host + Files + Net<Listener = TcpListener, Stream = TcpStream>>
     rt: &HostRuntime,
     threads: R,
     path: &str,
+    waiting: Waiting,
     opening: Opening,
     address: &str,
     workers: u8,
 ) -> Served {
     tell_reading(rt, path);
-    let keeper = SqliteKeeper::open(rt, path);
+    let (keeper, _place) = SqliteKeeper::open_served(rt, path, address, waiting);
     let ended = serve_stored(threads, rt.alloc(), keeper, opening, address, workers);
     let _ = fold_log(rt, path);
     // Without memory for the line its cause is not told.

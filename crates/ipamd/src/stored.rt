@@ -9,7 +9,7 @@ use ipam_command::run_command;
 use ipam_commands::{run_audit, unreserve};
 use ipam_io::{StdSink, StdSource};
 use ipam_keeper::Keeper;
-use ipam_sqlite::FileKeeper;
+use ipam_sqlite::{FileKeeper, Waiting};
 use ipam_text::Text;
 use ipam_words::{Command, Upkeep, read_words};
 use std::io;
@@ -27,6 +27,15 @@ pub(crate) enum Use {
     Look,
 }
 
+/// How long a command waits for its turn at the database: a CNI call without a word. None does where the words
+/// begin with `--no-wait`.
+pub(crate) fn waiting_of(words: &[String]) -> Waiting {
+    match read_words(words) {
+        Some(Command::Cni) => Waiting::Silent,
+        _ => Waiting::Told,
+    }
+}
+
 /// Runs the command over the database, or its upkeep. The database is opened once its rows are asked for.
 /// `threads` is the runtime too: what makes threads.
 pub(crate) fn run_over<R: Threads + Sync>(
@@ -36,6 +45,7 @@ pub(crate) fn run_over<R: Threads + Sync>(
     variables: &[(Text, Text)],
     database: &Database,
     aim: Use,
+    waiting: Waiting,
     upkeep: Option<&Upkeep<'_>>,
 ) -> u8
     requires { IfSome upkeep (λ asked. IsFit (of_upkeep asked.now)) }
@@ -43,7 +53,7 @@ pub(crate) fn run_over<R: Threads + Sync>(
     if upkeep.is_some() || reads_rows(words) {
         tell_reading(rt, path_of(database));
     }
-    let mut keeper = keeper_of(rt, database, aim);
+    let mut keeper = keeper_of(rt, database, aim).waiting(waiting);
     let status = run_kept(rt, threads, words, variables, upkeep, &mut keeper);
     tell_end(rt, database, aim, &keeper);
     status
@@ -58,7 +68,7 @@ fn path_of(database: &Database) -> &str {
 }
 
 /// The keeper of the database's rows. One over no file only reads, whatever the command does.
-fn keeper_of(rt: &HostRuntime, database: &Database, aim: Use) -> FileKeeper {
+pub(crate) fn keeper_of(rt: &HostRuntime, database: &Database, aim: Use) -> FileKeeper {
     match (database, aim) {
         (Database::File(path), Use::Keep) => FileKeeper::new(rt, path.as_str()),
         _ => FileKeeper::reader(rt, path_of(database)),
@@ -66,7 +76,7 @@ fn keeper_of(rt: &HostRuntime, database: &Database, aim: Use) -> FileKeeper {
 }
 
 /// Tells why the keeper failed, if it did, or that a command looked at a file that is not there.
-fn tell_end(rt: &HostRuntime, database: &Database, aim: Use, keeper: &FileKeeper) {
+pub(crate) fn tell_end(rt: &HostRuntime, database: &Database, aim: Use, keeper: &FileKeeper) {
     match (database, keeper.why(), aim) {
         (Database::File(path), Some(why), _) => tell_why(rt, path.as_str(), why),
         (Database::File(path), None, Use::Look) => tell_missing(rt, path.as_str()),

@@ -1,6 +1,6 @@
 //! What is told on standard error: a line for the cause of what standard output tells shortly. Where it
 //! can't be written, nothing else changes.
-use ipam_sqlite::StorageFault;
+use ipam_sqlite::{StorageFault, daemon_at};
 use std::fs;
 use std::io::{self, IsTerminal};
 
@@ -13,9 +13,9 @@ pub(crate) const EACH_REQUESTS: u64 = 100;
 /// How many rows of a backup there are from one line to the next.
 pub(crate) const EACH_ROWS: u64 = 10_000;
 
-/// The words that begin a command.
+/// The words that begin a command, or stand before it.
 const FIRST_WORDS: &str =
-    "cni play gen apply get show routes release unreserve audit backup serve call --help --version";
+    "--no-wait cni play gen apply get show routes release unreserve audit backup serve call --help --version";
 
 /// Tells which of the words is wrong: the first, or those that follow one that begins a command.
 pub(crate) fn tell_unknown(rt: &HostRuntime, words: &[String]) {
@@ -77,9 +77,21 @@ pub(crate) fn tell_progress(rt: &HostRuntime, count: u64, each: u64, what: &str)
     }
 }
 
-/// Tells why the database failed.
+/// Tells why the database failed, and where a daemon has it, how that is asked.
 pub(crate) fn tell_why(rt: &HostRuntime, path: &str, why: StorageFault) {
-    let _ = eprintln!(rt; "ipam: {path}: {why}");
+    let daemon = match why {
+        StorageFault::HeldByDaemon => daemon_at(rt, path),
+        _ => None,
+    };
+    let _ = match &daemon {
+        Some(address) => {
+            let address = address.as_str();
+            eprintln!(rt;
+                "ipam: {path}: {why}: ask it by ipam --daemon {address} WORDS, or ipam call {address}"
+            )
+        }
+        None => eprintln!(rt; "ipam: {path}: {why}"),
+    };
 }
 
 /// Tells that `IPAM_DB` names no file.
