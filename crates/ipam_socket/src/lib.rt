@@ -4,6 +4,7 @@
 
 mod address;
 mod connecting;
+mod dialing;
 mod file;
 mod gate;
 mod limits;
@@ -16,6 +17,7 @@ mod waits;
 
 pub use address::Address;
 pub use connecting::connect;
+pub use dialing::{DialError, Dialer, dial};
 pub use gate::{Peer, PeerGate, StreamPeer};
 pub use ipam_io::Failed;
 pub use limits::Limits;
