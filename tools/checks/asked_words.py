@@ -222,6 +222,7 @@ def page(rows, more=False):
 def try_strangers(program, folder):
     """Nobody answers, or something else does."""
     nobody = Words(program, folder / "none.db", folder / "none.sock")
+    nobody.environment["IPAM_CONNECT_SECONDS"] = "0"
     compare("nobody answers", (10, "link fault\n"), nobody.run(["routes", "a"]))
     compare("nobody answers apply", (10, "link fault\n"), nobody.run(["apply"], json.dumps(pool("p", "10.0.0.0/24"))))
     copy = folder / "copy.db"

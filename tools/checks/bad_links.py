@@ -7,7 +7,7 @@ import cni_table
 from changes import changed_json, changed_text
 from links import Daemon, Seeming
 from second_records import compact
-from second_session import VARIABLES, Sessions, error, line_of_call, taken
+from second_session import Sessions, error, line_of_call, taken
 
 MEGABYTE = 2**20
 PATIENCE = 60
@@ -171,9 +171,7 @@ def try_replies(program, draw, count):
             status, told = error("1.1.0" if command in ("GC", "STATUS") else "1.0.0", 111, "link")
             wanted = status, told.encode()
         found = client(program, seeming, reply, env, encoded(stdin), is_reset)
-        # (the program makes its call of all variables, with an empty text for each that is not there)
-        seen = {**dict.fromkeys(VARIABLES, ""), **env}
-        program.want("replies", repr(reply), found, (wanted, line_of_call(seen, stdin)))
+        program.want("replies", repr(reply), found, (wanted, line_of_call(env, stdin)))
 
 
 # ---- long input

@@ -500,10 +500,11 @@ def told_unreached(program, folder, _, steps):
 
 
 def told_call(program, folder, address, text, is_failing):
+    env = {**environment("ADD"), "IPAM_CONNECT_SECONDS": "0"}
     if not is_failing:
-        return told_run(program, ["call", address], text.encode(), environment("ADD"))
+        return told_run(program, ["call", address], text.encode(), env)
     given = os.open(folder, os.O_RDONLY)
-    called = subprocess.run([program.path, "call", address], stdin=given, stdout=subprocess.PIPE, env=environment("ADD"), check=False)
+    called = subprocess.run([program.path, "call", address], stdin=given, stdout=subprocess.PIPE, env=env, check=False)
     os.close(given)
     return told_end(called.returncode, called.stdout.decode())
 

@@ -198,7 +198,7 @@ def ask_document_bytes(program, case, count, answer):
 
 # ---- the client
 
-CALLED = ["CNI_COMMAND=DEL", "CNI_NETNS=/n", "PATH=/bin", "CNI_COMMAND=ADD"]
+CALLED = ["CNI_COMMAND=DEL", "CNI_NETNS=/n", "PATH=/bin", "CNI_COMMAND=ADD", "IPAM_CONNECT_SECONDS=0"]
 
 
 def filled(text):

@@ -10,5 +10,4 @@ pub mod ErrorTexts
 mod Refused
 mod Seen
 mod Texts
-mod Unasked
 mod Nobody

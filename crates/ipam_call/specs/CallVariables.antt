@@ -1,5 +1,5 @@
 -- The environment of a CNI call.
-use Rattle.std.specs.Prelude.{◌≡◌, ℕ, List, [], ◌∷◌, codes, true, false, Option, Some, None}
+use Rattle.std.specs.Prelude.{◌≡◌, ℕ, List, [], ◌∷◌, ◌++◌, codes, true, false, Option, Some, None}
 use Rattle.std.specs.Str.{is_utf8}
 use Rattle.ipam_addr.specs.Names.{is_name_text}
 use Rattle.cni_types.specs.Command.{command_of}
@@ -28,14 +28,20 @@ stand_in Args = codes "?"
 abbrev pub seen : Variable → Option (List ℕ) → List ℕ
 seen v value = text_or (stand_in v) value
 
-abbrev pub pair_of : Variable → List (List ℕ) → Pair
-pair_of v entries = (variable_name v, seen v (last_value (variable_name v) entries))
+-- the variable with its value as a call sees it, where it has one
+abbrev pub pair_seen : Variable → Option (List ℕ) → List Pair
+pair_seen v None = []
+pair_seen v (Some bytes) = (variable_name v, seen v (Some bytes)) ∷ []
 
--- the variables of a call, with their values
+-- the variable with its last value, where it is there
+abbrev pub pair_of : Variable → List (List ℕ) → List Pair
+pair_of v entries = pair_seen v (last_value (variable_name v) entries)
+
+-- the variables of a call that are there, with their values
 abbrev pub call_pairs : List (List ℕ) → List Pair
 call_pairs entries =
-    pair_of Command entries ∷ pair_of ContainerId entries ∷ pair_of Netns entries
-    ∷ pair_of Ifname entries ∷ pair_of Args entries ∷ []
+    pair_of Command entries ++ pair_of ContainerId entries ++ pair_of Netns entries
+    ++ pair_of Ifname entries ++ pair_of Args entries
 
 -- the value that a call finds under the variable's name in these pairs
 abbrev pub value_looked_at : Variable → List Pair → List ℕ

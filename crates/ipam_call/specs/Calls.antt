@@ -117,13 +117,6 @@ pub record Streams : Type 0 where
   pub replies : Option (List ℕ)
   pub reply_faults : ℕ
 
--- nothing was asked of the link, as far as it tells
-pub record IsUnasked (old new : Streams) : Type 0 where
-  pub sent : new.sent ≡ old.sent
-  pub send_faults : new.send_faults ≡ old.send_faults
-  pub replies : new.replies ≡ old.replies
-  pub reply_faults : new.reply_faults ≡ old.reply_faults
-
 -- How a call with this environment went that ended so. `same` says that the link is the same: an error is in
 -- the version of standard input once that was read, and until then nothing is asked of the link.
 pub record Went (same : Type 0) (env : List Pair) (end : CallEnd) (old new : Streams) : Type 0 where

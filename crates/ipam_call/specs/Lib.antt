@@ -1,5 +1,5 @@
--- What a call sends, what it takes for a reply, how it ends, what is written where the daemon isn't reached, and
--- what the environment says.
+-- What a call sends, what it takes for a reply, how it ends, what is written where the daemon isn't reached,
+-- what connects to it, and what the environment says.
 pub mod Requests
 pub mod Replies
 pub mod Versions
@@ -11,3 +11,5 @@ pub mod CallVariables
 pub mod Database
 pub mod Daemon
 pub mod Unreached
+pub mod Connecting
+pub mod Patience

@@ -1,16 +1,16 @@
 //! The environment of a CNI call.
-ghost use Rattle.std.specs.Prelude.{◌≡◌, ◌++◌, ◌∷◌, [], IfOk, OnOk};
+ghost use Rattle.std.specs.Prelude.{◌≡◌, ◌++◌, IfOk, OnOk};
 ghost use Rattle.ipam_call.specs.declared.variable.Variable.{Variable as Called};
 ghost use Rattle.ipam_call.specs.CallVariables.{call_pairs, pair_of, seen, variable_name, value_looked_at};
-ghost use Rattle.ipam_call.specs.Values.{found, last_value, text_or};
+ghost use Rattle.ipam_call.specs.Values.{last_value};
 
 use crate::values::{last_value, text_of};
 use crate::variable::Variable;
 use ipam_text::{Seq, Text};
 use std::alloc::{AllocError, Global};
 
-/// What a CNI call takes of the environment's entries: its five variables, each with its value, which is
-/// empty where there is no entry. Of entries of one name the last counts.
+/// What a CNI call takes of the environment's entries: those of its five variables that are there, each with
+/// its value. Of entries of one name the last counts. A call sees a variable that isn't there as an empty one.
 ///
 /// A value that is no text is seen as one that each test of its variable refuses.
 pub fn call_variables(alloc: Global, entries: &[Seq<u8>]) -> Result<Vec<(Text, Text)>, AllocError>
@@ -26,31 +26,20 @@ pub fn call_variables(alloc: Global, entries: &[Seq<u8>]) -> Result<Vec<(Text, T
     Ok(pairs)
 }
 
-/// Appends the variable with its value.
+/// Appends the variable with its value, where it is there.
 fn push_value(
     alloc: Global,
     pairs: &mut Vec<(Text, Text)>,
     entries: &[Seq<u8>],
     variable: Variable,
 ) -> Result<(), AllocError>
-    ensures { OnOk result (pairs.new.items ≡ pairs.old.items ++ pair_of variable entries.now ∷ []) }
+    ensures { OnOk result (pairs.new.items ≡ pairs.old.items ++ pair_of variable entries.now) }
 {
-    let value = text_or(variable.stand_in(), last_value(entries, variable.name()));
-    let value = Text::copied(alloc, value)?;
+    let Some(bytes) = last_value(entries, variable.name()) else {
+        return Ok(());
+    };
     let name = Text::copied(alloc, variable.name())?;
+    let value = Text::copied(alloc, text_of(bytes).unwrap_or(variable.stand_in()))?;
     pairs.push((name, value))?;
     Ok(())
-}
-
-/// The value as a text, or what stands in for it. Empty where there is no value.
-fn text_or<'a>(stand_in: &'a str, value: Option<&'a [u8]>) -> &'a str
-    ensures { result.now ≡ text_or stand_in.now (found value.entry) }
-{
-    let Some(bytes) = value else {
-        return "";
-    };
-    match text_of(bytes) {
-        Some(text) => text,
-        None => stand_in,
-    }
 }

@@ -1,30 +1,31 @@
 //! An audit over a daemon, a backup, and a reservation that is taken back.
 ghost use Rattle.ipam_words.specs.Upkeep.{IsFit, of_upkeep};
 
-use crate::asking::unreached_at;
+use crate::asking::{connector_of, unreached_at};
 use crate::new_file::{NewFile, NotMade, unmake};
 use crate::telling::tell_why;
 use crate::viewed::Viewed;
-use ipam_call::{Address, Connector, Connects, Limits};
+use ipam_call::{Connects, Dialer};
 use ipam_io::{Link, StdSink};
 use ipam_operator::{End, Target, audit, back_up_asked, back_up_kept, tell};
 use ipam_sqlite::FileKeeper;
+use ipam_text::Seq;
 use ipam_words::Upkeep;
 use sqlite::Alter;
 use std::io;
 use std::thread::Threads;
 
 /// Asks the daemon at the address, and answers the exit status. `threads` is the runtime too: what makes threads.
-pub(crate) fn ask_upkeep<R: Threads + Sync>(
+pub(crate) fn ask_upkeep<R: Dialer + Sync>(
     rt: &HostRuntime,
     threads: &R,
+    entries: &[Seq<u8>],
     address: &str,
     upkeep: &Upkeep<'_>,
 ) -> u8
     requires { IsFit (of_upkeep upkeep.now) }
 {
-    let mut connector = Connector::new(rt, Address::of(address), Limits::of_call());
-    match connector.connect() {
+    match connector_of(rt, *threads, entries).connect(address) {
         Some(link) => ask_over(rt, threads, upkeep, &mut Viewed::new(rt, link)),
         None => unreached_at(rt, address),
     }

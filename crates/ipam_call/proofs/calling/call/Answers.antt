@@ -1,11 +1,13 @@
-use Rattle.std.proofs.Common.{inl, inr, refl}
-use Rattle.ipam_call.proofs.Unasked.{went_unasked}
+use Rattle.std.proofs.Common.{inl, inr}
 use Rattle.ipam_call.proofs.calling.call.Goals as goal
 
-pub returns-clause-called : goal.returns-clause-called
-returns-clause-called g c =
-    elim c.call_by.ensures.reached [
-      | inl w ↦ let (one, same, rest) = w in let (end, before, after, went, told) = rest in
-          (end, inr (_, _, went_unasked _ _ end _ _ went (λ is. record { sent = cc is; send_faults = cc is; replies = cc is; reply_faults = cc is }), refl, refl, refl, refl), told)
-      | inr w ↦ let (none, rose, rest) = w in let (end, unreached, told) = rest in (end, inl unreached, told)
-    ]
+-- the link went from the one that was made to the one that was ended
+pub returns-in-Some-clause-called : goal.returns-in-Some-clause-called
+returns-in-Some-clause-called g c =
+    let (end, went, told) = c.run_call.ensures.called in
+    inl (_, _, _, c.in-Some.ensures.reached, c.end.ensures, (end, went, told))
+
+pub returns-in-None-clause-called : goal.returns-in-None-clause-called
+returns-in-None-clause-called g c =
+    let (end, unreached, told) = c.tell_unreached.ensures.told in
+    inr (c.in-None.ensures.failed, (end, unreached, told))
