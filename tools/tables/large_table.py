@@ -167,3 +167,12 @@ def full():
     """A script over all rows that there may be, a few revisions from the last."""
     rows = "".join(f"row {key} {body}\n" for key, body in full_rows())
     return f"counter {LAST_REVISION - 17}\n{rows}" + "".join(FULL)
+
+
+def last_block():
+    """A script of two requests that create the last block that there may be: the second one finds that it exists."""
+    rows = "".join(f"row {key} {body}\n" for key, body in full_rows() if key.startswith(("1 pools", "3 block/")))
+    first, *others = rows.split("row 3 block/10.0.0.0/30 ")
+    rows = first + "".join(it.split("\n", 1)[1] for it in others)
+    asks = [turns(slot, 5, "add", address="10.0.0.1", handle=f"n.c{slot}", node=node) for slot, node in enumerate("ab")]
+    return rows + "".join(asks) + "turn 0\nturn 1 2\n"

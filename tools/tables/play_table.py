@@ -271,6 +271,43 @@ def many_races():
     assert lost[63].endswith(' - {"again":{"claims":0,"lost":64}}') and journal.endswith(lost[63] + "\n")
     return text
 
+
+def many_claims():
+    """A slot that claims 64 blocks of one address, each of which another takes as soon as it is claimed."""
+    text = 'row 1 pools {"pools":[{"blockSize":32,"cidr":"10.0.0.0/24","disabled":false,"name":"p"}]}\n' + ADD
+    for number in range(64):
+        text += "turn 0 9\n" + (add_this(f"10.0.0.{number}", "n.x", "a", 1) + "turn 1 6\n" if number < 63 else "")
+    journal, status = play(text)
+    confirmed = [line for line in journal.splitlines() if line.startswith("0 called update affinity/a/")]
+    assert status == 0 and len(confirmed) == 64 and all(line.endswith('"confirmed"} -') for line in confirmed[:63])
+    assert confirmed[63].endswith(' {"again":{"claims":64,"lost":0}}') and journal.endswith(confirmed[63] + "\n")
+    return text
+
+
+# ---- the most bytes of a script
+
+LINE_BYTES, SCRIPT_BYTES = 2**20, 2**26
+
+
+def padded(size):
+    """A request that a line of so many bytes has, and its stop."""
+    request = 'begin 0 {%s"del":{"handle":"n.c1"}}\n'
+    return request % (" " * (size - len(request % "")))
+
+
+def largest(more):
+    """A script whose last line ends so many bytes behind the most, what is written of it, and the status."""
+    stop, began = "stop 0\n", '0 began {"del":{"handle":"n.c1"}}\n0 stopped\n'
+    count = SCRIPT_BYTES // LINE_BYTES
+    pairs = (padded(LINE_BYTES - len(stop)) + stop) * (count - 1)
+    # (the line feed behind the last byte is none of the line)
+    text = pairs + padded(LINE_BYTES - len(stop) + 1 + more) + stop
+    assert len(text) == SCRIPT_BYTES + 1 + more
+    if more <= 0:
+        return text, began * count, 0
+    return text, began * (count - 1) + began.split("\n", 1)[0] + f"\nline {2 * count}: long\n", 8
+
+
 # what is written of these is said beside them
 REFUSED = [
     ("jump 0\n", "line 1: unreadable\n", 8),
@@ -330,7 +367,7 @@ def worked(script, lines):
 
 def long_scripts():
     """Scripts with long journals."""
-    return [many_races(), *(text_of(number) for number in range(RANDOM))]
+    return [many_races(), many_claims(), *(text_of(number) for number in range(RANDOM))]
 
 
 def encoded(script):
