@@ -25,6 +25,7 @@ import json
 import os
 import re
 import resource
+import select
 import socket
 import stat
 import subprocess
@@ -62,10 +63,23 @@ TWO_ADDRESSES = (
 )
 FREE = [POOL, AFFINITY, NO_ADDRESS]
 LAST_REVISION = 3
+# A collection of so many blocks is at work for a second or more.
+LEAKING = 150
 
 
 def handles(first, end):
     return ['%d handle/n.c%d {"block":{"10.0.0.0/30":1},"handleID":"n.c%d"}' % (at, at, at) for at in range(first, end)]
+
+
+def leaks(blocks):
+    """Blocks of 64 addresses, each address of a handle of its own, and these handles."""
+    for number in range(blocks):
+        cidr, names = f"10.1.{number // 4}.{number % 4 * 64}/26", [f"n.l{number}x{at}" for at in range(64)]
+        yield from (f'2 handle/{name} {{"block":{{"{cidr}":1}},"handleID":"{name}"}}' for name in names)
+        body = {"affinity": None, "allocations": list(range(64))}
+        body |= {"attributes": [{"handle_id": name, "secondary": {}} for name in names], "cidr": cidr, "sequenceNumber": 64}
+        body |= {"sequenceNumberForAllocation": dict(sorted((str(at), at + 1) for at in range(64))), "unallocated": []}
+        yield f"65 block/{cidr} {json.dumps(body, separators=(',', ':'))}"
 
 
 ROWS = {
@@ -74,6 +88,7 @@ ROWS = {
     "broken": [POOL, TWO_ADDRESSES, HANDLE],
     "pages": FREE + handles(1000, 3100),
     "many": FREE + handles(1000, 21_000),
+    "leaks": [POOL.replace("10.0.0.0/29", "10.0.0.0/15").replace(":30", ":26"), *leaks(LEAKING)],
 }
 
 
@@ -300,6 +315,10 @@ class Client:
             reply = self.line()
         return reply if time.monotonic() - self.began > grace - 1 else "too early"
 
+    def waits(self):
+        """Whether there is no reply so far."""
+        return "a reply" if self.came or select.select([self.connection], [], [], 0)[0] else "no reply so far"
+
     def reset(self):
         self.connection.setsockopt(socket.SOL_SOCKET, socket.SO_LINGER, (1).to_bytes(4, "little") + bytes(4))
         self.connection.close()
@@ -327,7 +346,8 @@ class Play:
     `serve N M` starts a daemon of N workers, which M clients reach. With no workers the system makes no thread, and
     with `alone` none but the workers, so that they write what is told. Each client has a letter: `a > TEXT` sends a line, `a . TEXT`
     a text without a line feed, `a <` reads a line, `a later SECONDS TEXT` sends a line again while it is refused as too
-    soon, `a call COMMAND` makes a call over the connection, `a reset` resets it, and `a !` closes it.
+    soon, `a waits` tells whether there is no reply so far, `a call COMMAND` makes a call over the connection, `a reset`
+    resets it, and `a !` closes it.
 
     `call COMMAND` makes a call by a connection of its own. `gone` moves the file of the database away, and `full` lets
     the daemon open no more files until `room`. `unlinked` removes the socket file and waits for another, and `taken`
@@ -368,7 +388,7 @@ class Play:
         if word == "later":
             seconds, _, line = text.partition(" ")
             return client.later(int(seconds), line)
-        return {"<": client.line, "reset": client.reset, "call": lambda: client.call(self.program, text)}[word]()
+        return {"<": client.line, "waits": client.waits, "reset": client.reset, "call": lambda: client.call(self.program, text)}[word]()
 
     def serve(self, workers, clients, alone=None):
         workers, is_limited = int(workers), alone is not None or workers == "0"
