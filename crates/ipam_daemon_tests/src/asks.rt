@@ -64,7 +64,7 @@ fn base_text(alloc: Global, cluster: &Cluster) -> Result<String, AllocError> {
     format!(in alloc; "{rows} at {} after {}, ", base.counter, base.first)
 }
 
-/// The answer to an administrator's request, and the key that is in doubt after it.
+/// The answer to an administrator's request or to an ADD, and the key that is in doubt after it.
 fn answer_text<D: Keeper>(
     alloc: Global,
     kept: &mut Kept<D>,
@@ -92,11 +92,11 @@ fn ran_text<D: Keeper>(
     ensures idle { NothingRuns kept.new }
     ensures kept { IsKept D.rows kept.new }
 {
-    let Request::Admin(_) = request else {
-        return String::from_str(alloc, "no change");
+    let (Request::Admin(_) | Request::Add(_)) = request else {
+        return String::from_str(alloc, "no such step");
     };
     let word = match &run_alone(alloc, kept, request)? {
-        Answer::Done(_) => "done",
+        Answer::Done(_) | Answer::Added(_) => "done",
         Answer::Fault => "fault",
         _ => "another answer",
     };

@@ -51,7 +51,7 @@ struct Given {
     opening: Opening,
 }
 
-/// What these lines give. `> TEXT` is a line that comes in, and `clock N..` has the readings of the clock.
+/// What these lines give. `clock N..` has the readings of the clock.
 fn make_given(alloc: Global, lines: &str) -> Result<Given, AllocError> {
     Ok(Given {
         link: link_of(alloc, lines)?,
@@ -107,14 +107,29 @@ fn tell_replies(written: &[u8], lines: &str, told: &mut Told) {
     }
 }
 
-/// The link on which the lines come in.
+/// The link on which the bytes of these lines come in. Of its reads and writes, counted from 1, those fail that a line
+/// `link N..` says.
 fn link_of(alloc: Global, lines: &str) -> Result<MemoryLink, AllocError> {
     let mut bytes = Vec::new(alloc);
     for line in lines.lines() {
-        if let Some(text) = line.strip_prefix("> ") {
-            bytes.extend_from_slice(text.as_bytes())?;
-            bytes.extend_from_slice(b"\n")?;
-        }
+        push_bytes(alloc, &mut bytes, line)?;
     }
-    MemoryLink::new(alloc, bytes, ROOM, Vec::new(alloc))
+    MemoryLink::new(alloc, bytes, ROOM, numbers(alloc, lines, "link ")?)
+}
+
+/// The bytes that come in by this line: `> TEXT` is a line, `. TEXT` a text without a line feed, and `fill N` are so
+/// many bytes.
+fn push_bytes(alloc: Global, bytes: &mut Vec<u8>, line: &str) -> Result<(), AllocError> {
+    let (word, rest) = line.split_once(' ').unwrap_or((line, ""));
+    match word {
+        ">" => {
+            bytes.extend_from_slice(rest.as_bytes())?;
+            bytes.extend_from_slice(b"\n")
+        }
+        "." => bytes.extend_from_slice(rest.as_bytes()),
+        "fill" => bytes.extend_from_slice(vec![in alloc; b'x'; rest
+            .parse()
+            .unwrap_or(0)]?.as_slice()),
+        _ => Ok(()),
+    }
 }

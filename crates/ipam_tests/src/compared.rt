@@ -10,6 +10,8 @@ use std::alloc::{AllocError, Global};
 struct Both {
     store: Store,
     plain: PlainStore,
+    /// The most rows that a page of handles had so far.
+    most_in_page: usize,
 }
 
 /// Applies the write of the call at this revision.
@@ -69,6 +71,13 @@ fn are_same(both: &Both, kind: Kind) -> bool {
     }
 }
 
+/// Takes notice of the pages of handles.
+fn note_pages(both: &mut Both) {
+    for page in both.store.pages(Kind::Handle) {
+        both.most_in_page = both.most_in_page.max(page.len());
+    }
+}
+
 /// Rows of each list, so that rows at later places are reached.
 const FIRST_CALLS: &str = r#"create reservations {"reservations":[]}
 create config {"autoAllocateBlocks":true,"maxBlocksPerHost":0,"strictAffinity":false}
@@ -107,19 +116,27 @@ fn first_difference(alloc: Global, both: &mut Both) -> Result<Option<String>, Al
         if !are_same(both, Kind::Handle) {
             return Ok(Some(text));
         }
+        note_pages(both);
     }
     Ok(None)
 }
 
-/// How many rows there are after the steps, and the counter, or the call after which the store is not as the
-/// plain one.
+/// How many rows there are after the steps, and the counter, and how many rows a page had at most; or the call after
+/// which the store is not as the plain one.
 pub(crate) fn handles_text(alloc: Global) -> Result<String, AllocError> {
     let mut both = Both {
         store: Store::new(alloc, 0),
         plain: PlainStore::new(alloc),
+        most_in_page: 0,
     };
     match first_difference(alloc, &mut both)? {
         Some(text) => format!(in alloc; "not the same after {text}"),
-        None => format!(in alloc; "{} rows at {}", both.store.rows(), both.store.counter()),
+        None => {
+            let (rows, counter) = (both.store.rows(), both.store.counter());
+            format!(in alloc;
+                "{rows} rows at {counter}, at most {} in a page",
+                both.most_in_page
+            )
+        }
     }
 }
