@@ -6,7 +6,7 @@ ghost use Rattle.ipam_serve.specs.Asking.{count_of_lines};
 ghost use Rattle.ipam_socket.specs.Links.{peer_of};
 
 use ipam_io::{Gate, Passed, Point};
-use ipam_serve::SessionGate;
+use ipam_serve::{Pass, SessionGate};
 use ipam_socket::{Peer, PeerGate};
 
 /// A gate that looks at the peer at each turn, and counts the passes before a line and those at a turn. Before
@@ -25,8 +25,11 @@ impl<P: Peer> SessionGate for Asking<P> {
 
     ghost lines = { λ gate. Some gate.lines };
 
+    // it found somebody there
+    ghost admits = { λ before _ _ after. P.gone (peer_of after.gate) ≡ P.gone (peer_of before.gate) };
+
     /// At a turn it looks once, and stops exactly where nobody is there. Before a line it goes on.
-    fn pass(&mut self, point: Point) -> Passed
+    fn pass(&mut self, point: Point, _session: &Pass) -> Passed
         ensures looked { P.looks (peer_of self.new.gate) ≡ count_of_turns point (P.looks (peer_of self.old.gate)) }
         ensures before_line { point ≡ Point.Line → result ≡ Passed.Go }
         ensures stop { OnStop result (Rose (P.gone (peer_of self.old.gate)) (P.gone (peer_of self.new.gate))) }

@@ -30,7 +30,7 @@ struct Meanwhile<'a, R: Wait, S: Serves> {
 }
 
 impl<R: Wait, S: Serves> SessionGate for Meanwhile<'_, R, S> {
-    ghost use Rattle.std.specs.Prelude.{None};
+    ghost use Rattle.std.specs.Prelude.{⊤, None};
 
     ghost stops = { λ _. 0 };
 
@@ -38,8 +38,10 @@ impl<R: Wait, S: Serves> SessionGate for Meanwhile<'_, R, S> {
 
     ghost lines = { λ _. None };
 
+    ghost admits = { λ _ _ _ _. ⊤ };
+
     #[tactic(auto, using(ipam_daemon::proofs::Idle::is_idle, ipam_daemon::proofs::Idle::none_runs))]
-    fn pass(&mut self, _point: Point) -> Passed {
+    fn pass(&mut self, _point: Point, _session: &Pass) -> Passed {
         self.passes_left = self.passes_left.wrapping_sub(1);
         if self.passes_left == 0 {
             served(

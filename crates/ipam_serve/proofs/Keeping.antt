@@ -2,7 +2,6 @@
 use Rattle.std.proofs.Common.{◌≡◌, ◌≢◌, ◌⊎◌, ℕ, Bool, true, false, cond, inl, inr, List, [], ◌∷◌, ◌++◌, length, drop, Option, Some, None, refl, sym, ap, ◌∙◌, subst, append_assoc, eqb-true, arith}
 use Rattle.std.proofs.lemmas.List.{append_cancel_right}
 use Rattle.std.specs.Prelude.{◌==◌}
-use Rattle.turn_lock.specs.Histories.{NoneBy}
 use Rattle.ipam_model.specs.declared.answer.Answer.{Answer}
 use Rattle.ipam_model.specs.declared.answer.Answer.TheVariants.{Fault}
 use Rattle.ipam_model.specs.declared.entry.Called.{Called as OneCall}
@@ -22,11 +21,11 @@ use Rattle.ipam_shared.specs.PassValue.{PassValue}
 use Rattle.ipam_shared.specs.Passes.{IsSamePass}
 use Rattle.ipam_shared.specs.Turning.{SeesNext, WasDone, met}
 use Rattle.ipam_serve.specs.Gains.{Gained, TookTurns, calls_in, of_slot}
-use Rattle.ipam_serve.specs.Keeping.{CameOf, IsByKeeper, KeeperFailed, MakesCalls, WasMade, WasMadeIfCall, WereMade}
+use Rattle.ipam_serve.specs.Calls.{AreSo, IsSoIfCall}
+use Rattle.ipam_serve.specs.Keeping.{CameOf, IsByKeeper, KeeperFailed, MakesCalls, WasMade}
 use Rattle.ipam_serve.specs.Spans.{AnswersWith, Begins, Calls, Deed, Did, Feeds, Nothing, SlotSpan, Stops}
 use Rattle.ipam_serve.specs.Runs.{DoesDeed, Taker}
-use Rattle.ipam_serve.proofs.Entries.{of_slot-own}
-use Rattle.ipam_serve.proofs.Turning.{took-nothing}
+use Rattle.ipam_serve.proofs.Calls.{each-nothing, each-quiet, each-then, none-so}
 
 -- ---- what a turn met
 
@@ -34,45 +33,11 @@ drop-told : (told rest : List Entry) → drop (length told) (told ++ rest) ≡ r
 drop-told [] rest = refl
 drop-told (new ∷ told) rest = drop-told told rest
 
--- ---- entries that are no calls
-
-quiet-tail : (told : Entry) (rest : List Entry) → calls_in (told ∷ rest) ≡ 0 → calls_in rest ≡ 0
-unfolding calls_in
-quiet-tail (entry.Began slot request) rest e = e
-quiet-tail (entry.Fed slot at live) rest e = e
-quiet-tail (entry.Called c) rest e = absurd (omega (arith, e))
-quiet-tail (entry.Stopped slot) rest e = e
-
-quiet-rest : (slot : ℕ) (told : Entry) (more : List Entry) → calls_in (of_slot slot (told ∷ more)) ≡ 0 → calls_in (of_slot slot more) ≡ 0
-unfolding of_slot
-quiet-rest slot told more = from (slot_of_entry told == slot)
-  where
-    from : (b : Bool) → calls_in (cond b (told ∷ of_slot slot more) (of_slot slot more)) ≡ 0 → calls_in (of_slot slot more) ≡ 0
-    from true e = quiet-tail told (of_slot slot more) e
-    from false e = e
-
 module _ {D : Type 0} (tells : Tells D) (gives : Gives D) (faults : D → ℕ) where
-  quiet-entry : (base : Base) (slot : ℕ) (told : Entry) (more earlier : List Entry) → calls_in (of_slot slot (told ∷ more)) ≡ 0 → slot_of_entry told ≡ slot → WasMadeIfCall tells gives faults base slot told earlier
-  unfolding calls_in
-  quiet-entry base slot (entry.Began other request) more earlier e own = tt
-  quiet-entry base slot (entry.Fed other at live) more earlier e own = tt
-  quiet-entry base slot (entry.Called c) more earlier e own =
-      let is = subst (λ l. calls_in l ≡ 0) (of_slot-own slot (entry.Called c) more own) e in absurd (omega (arith, is))
-  quiet-entry base slot (entry.Stopped other) more earlier e own = tt
+  -- ---- turns without a call
 
-  quiet-made : (base : Base) (slot : ℕ) (more earlier : List Entry) → calls_in (of_slot slot more) ≡ 0 → WereMade tells gives faults base slot more earlier
-  quiet-made base slot [] earlier e = tt
-  quiet-made base slot (told ∷ more) earlier e =
-      (quiet-made base slot more earlier (quiet-rest slot told more e), λ own. quiet-entry base slot told more (more ++ earlier) e own)
-
-  -- turns that made no call
   pub makes-quiet : (old new : PassValue) (entries : List Entry) (spared : ℕ) → TookTurns old entries spared new → calls_in entries ≡ 0 → MakesCalls tells gives faults old new
-  makes-quiet old new entries spared took none = record {
-    same = took.same;
-    more = took.gained.more;
-    grew = took.gained.grew;
-    made = quiet-made old.base old.slot took.gained.more old.seen (subst (λ l. calls_in l ≡ 0) (sym took.gained.own) none);
-  }
+  makes-quiet old new entries spared took none = each-quiet (WasMade tells gives faults) old new entries took.same took.gained none
 
   pub makes-none : (old new : PassValue) (spared : ℕ) → TookTurns old [] spared new → MakesCalls tells gives faults old new
   unfolding calls_in
@@ -91,39 +56,15 @@ module _ {D : Type 0} (tells : Tells D) (gives : Gives D) (faults : D → ℕ) w
   makes-stopped old new took = makes-quiet old new (entry.Stopped old.slot ∷ []) 0 took refl
 
   pub makes-nothing : (pass : PassValue) → MakesCalls tells gives faults pass pass
-  makes-nothing pass = makes-none pass pass 0 (took-nothing pass)
+  makes-nothing pass = each-nothing (WasMade tells gives faults) pass
 
   pub makes-same : (old new : PassValue) → new ≡ old → MakesCalls tells gives faults old new
   makes-same old new same = subst (λ (p : PassValue). MakesCalls tells gives faults old p) (sym same) (makes-nothing old)
 
-  -- ---- turns one after another
-
-  made-append : (base : Base) (slot : ℕ) (later earlier first : List Entry) → WereMade tells gives faults base slot later (earlier ++ first) → WereMade tells gives faults base slot earlier first → WereMade tells gives faults base slot (later ++ earlier) first
-  made-append base slot [] earlier first a b = b
-  made-append base slot (told ∷ later) earlier first a b = (
-    made-append base slot later earlier first a.0 b,
-    λ own. subst (λ (h : List Entry). WasMadeIfCall tells gives faults base slot told h) (sym (append_assoc later earlier first)) (a.1 own),
-  )
-
   pub makes-then : (one two three : PassValue) → MakesCalls tells gives faults one two → MakesCalls tells gives faults two three → MakesCalls tells gives faults one three
-  makes-then one two three a b = record {
-    same = b.same ∙ ap (λ (p : PassValue). record p { left = three.left; seen = three.seen; moment = three.moment; sure = three.sure }) a.same;
-    more = b.more ++ a.more;
-    grew = b.grew ∙ ap (λ s. b.more ++ s) a.grew ∙ sym (append_assoc b.more a.more one.seen);
-    made = made-append one.base one.slot b.more a.more one.seen later a.made;
-  }
-    where
-      later : WereMade tells gives faults one.base one.slot b.more (a.more ++ one.seen)
-      later =
-          subst (λ (s : List Entry). WereMade tells gives faults one.base one.slot b.more s) a.grew
-          (subst (λ (n : ℕ). WereMade tells gives faults one.base n b.more two.seen) (ap (λ (p : PassValue). p.slot) a.same)
-          (subst (λ (base : Base). WereMade tells gives faults base two.slot b.more two.seen) (ap (λ (p : PassValue). p.base) a.same) b.made))
+  makes-then one two three a b = each-then (WasMade tells gives faults) one two three a b
 
   -- ---- a call
-
-  none-made : (base : Base) (slot : ℕ) (others earlier : List Entry) → NoneBy slot_of_entry slot others → WereMade tells gives faults base slot others earlier
-  none-made base slot [] earlier none = tt
-  none-made base slot (told ∷ others) earlier none = (none-made base slot others earlier none.1, λ own. absurd (none.0 own))
 
   -- a call of this answer is one of this fate
   answered-so : (base : Base) (earlier : List Entry) (c : OneCall) → Lawful base (entry.Called c ∷ earlier) → (c.fate ≡ Well → c.answer ≢ Some Fault) × (c.fate ≡ Before → c.answer ≡ Some Fault)
@@ -150,7 +91,7 @@ module _ {D : Type 0} (tells : Tells D) (gives : Gives D) (faults : D → ℕ) w
       same = same;
       more = entry.Called c ∷ sees.between;
       grew = seen-as c is;
-      made = (none-made old.base old.slot sees.between old.seen sees.others, λ own. made);
+      are = (none-so (WasMade tells gives faults) old.base old.slot sees.between old.seen sees.others, λ own. made);
     }
       where
         made : WasMade tells gives faults old.base old.slot c (sees.between ++ old.seen)
@@ -226,7 +167,7 @@ module _ {D : Type 0} (tells : Tells D) (gives : Gives D) (faults : D → ℕ) w
       from (inl d) = absurd (d.1 fault)
       from (inr f) = f.0
 
-  failed-in : (base : Base) (slot : ℕ) (c : OneCall) (rest entries first : List Entry) → of_slot slot entries ≡ entry.Called c ∷ rest → c.answer ≡ Some Fault → WereMade tells gives faults base slot entries first → Failed base slot entries first
+  failed-in : (base : Base) (slot : ℕ) (c : OneCall) (rest entries first : List Entry) → of_slot slot entries ≡ entry.Called c ∷ rest → c.answer ≡ Some Fault → AreSo (WasMade tells gives faults) base slot entries first → Failed base slot entries first
   unfolding of_slot
   failed-in base slot c rest [] first e fault made = absurd (cc e)
   failed-in base slot c rest (told ∷ entries) first e fault made = from (slot_of_entry told == slot) refl e (λ is. failed-in base slot c rest entries first is fault made.0)
@@ -235,7 +176,7 @@ module _ {D : Type 0} (tells : Tells D) (gives : Gives D) (faults : D → ℕ) w
       from true own is later =
           let same : told ≡ entry.Called c = cc is in
           let one : WasMade tells gives faults base slot c (entries ++ first) =
-          subst (λ (t : Entry). WasMadeIfCall tells gives faults base slot t (entries ++ first)) same (made.1 (eqb-true (slot_of_entry told) slot own)) in
+          subst (λ (t : Entry). IsSoIfCall (WasMade tells gives faults) base slot t (entries ++ first)) same (made.1 (eqb-true (slot_of_entry told) slot own)) in
           record { call = c; later = []; earlier = entries; are = ap (λ (t : Entry). t ∷ entries) same; made = one; failed = made-failed base slot c (entries ++ first) one fault }
       from false other is later =
           let f = later is in
@@ -258,7 +199,7 @@ module _ {D : Type 0} (tells : Tells D) (gives : Gives D) (faults : D → ℕ) w
       more = append_cancel_right m.more gained.more old.seen (sym m.grew ∙ gained.grew)
 
       f : Failed old.base old.slot m.more old.seen
-      f = failed-in old.base old.slot a.call a.earlier m.more old.seen (ap (of_slot old.slot) more ∙ gained.own ∙ a.are) a.answers m.made
+      f = failed-in old.base old.slot a.call a.earlier m.more old.seen (ap (of_slot old.slot) more ∙ gained.own ∙ a.are) a.answers m.are
 
   -- what came at the keeper of a line that was done
   pub came-so : (old new : Taker) (deed : Deed) (answer : Option Answer) (spared : ℕ) → DoesDeed old deed answer spared new → MakesCalls tells gives faults old.pass new.pass → CameOf tells gives faults answer old.pass new.pass

@@ -2,7 +2,9 @@
 pub mod Entries
 pub mod Slots
 pub mod Turning
+pub mod Calls
 pub mod Keeping
+pub mod Admitting
 pub mod Coming
 pub mod Looking
 pub mod Running

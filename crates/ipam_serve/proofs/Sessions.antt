@@ -13,6 +13,7 @@ use Rattle.ipam_shared.specs.PassValue.{PassValue}
 use Rattle.ipam_shared.specs.declared.faults.SpentPass.{SpentPass}
 use Rattle.ipam_shared.specs.Deeds.{told_if}
 use Rattle.ipam_shared.specs.Passes.{IsSamePass, runs_in}
+use Rattle.ipam_shared.specs.Settling.{KnowsSure}
 use Rattle.ipam_shared.specs.Turning.{SeesNext}
 use Rattle.ipam_serve.specs.declared.ends.SessionEnd.{SessionEnd}
 use Rattle.ipam_serve.specs.declared.ends.SessionEnd.TheVariants as end
@@ -244,10 +245,10 @@ module _ (at : AtKeeper) (line : List ℕ) (old new : Talk) (turns : Option ℕ)
         replies = subst (λ t. Replies (asked_by line) reply (with_turns t old.server) (server_before middle new.server)) same_turns replied
 
     -- its reply was written
-    pub exchanged : (r : Result (Unit {0}) SessionEnd) → new.opened ≡ old.opened → OnOk r (at.settled new.server.taker.pass) → OnOk r (new.written ≡ append_known mid (reply_line reply)) → OnOk r ((x : Exchange) × Exchanges at x old new)
-    exchanged (Ok done) same_opened settled wrote =
-        (record { line = line; reply = reply }, record { asks = asks; reads = reads-new; middle = middle; told = told-new; settled = settled; same = same_opened; writes = wrote ∙ ap (λ w. append_known w (reply_line reply)) kept })
-    exchanged (Err how) same_opened settled wrote = tt
+    pub exchanged : (r : Result (Unit {0}) SessionEnd) → new.opened ≡ old.opened → OnOk r (at.settled new.server.taker.pass) → OnOk r (KnowsSure new.server.taker.pass) → OnOk r (new.written ≡ append_known mid (reply_line reply)) → OnOk r ((x : Exchange) × Exchanges at x old new)
+    exchanged (Ok done) same_opened settled known wrote =
+        (record { line = line; reply = reply }, record { asks = asks; reads = reads-new; middle = middle; told = told-new; settled = settled; known = known; same = same_opened; writes = wrote ∙ ap (λ w. append_known w (reply_line reply)) kept })
+    exchanged (Err how) same_opened settled known wrote = tt
 
     unsettled-cause : (how : SessionEnd) → Unsettles at how middle new.server.taker.pass → IsCause how (Unsettled line reply) old.coming old.server.taker.pass new.server.taker.pass
     unsettled-cause end.Closed why = absurd why

@@ -1,5 +1,5 @@
 -- What is made sure of.
-use Rattle.std.proofs.Common.{◌≡◌, ◌⊎◌, ◌≤◌, ℕ, ◌+◌, arith, Bool, false, inl, inr, List, [], Option, Result, Ok, Err, refl, sym, subst, ap}
+use Rattle.std.proofs.Common.{◌≡◌, ◌↔◌, ◌⊎◌, ◌<◌, ◌≤◌, ℕ, ◌+◌, arith, Bool, false, IsTrue, inl, inr, List, [], Option, Result, Ok, Err, refl, sym, subst, ap}
 use Rattle.std.specs.Prelude.{IfErr, OnErr}
 use Rattle.ipam_io.specs.Streams.{AppendsPrefix}
 use Rattle.ipam_keeper.specs.declared.keeper.KeepFault.{KeepFault}
@@ -13,14 +13,14 @@ use Rattle.ipam_shared.specs.declared.faults.SharedFault.{SharedFault}
 use Rattle.ipam_shared.specs.declared.faults.SharedFault.TheVariants.{Inner, SpentPass}
 use Rattle.ipam_shared.specs.PassValue.{PassValue}
 use Rattle.ipam_shared.specs.Passes.{IsSamePass}
-use Rattle.ipam_shared.specs.Settling.{IsSure, SettlesAs}
+use Rattle.ipam_shared.specs.Settling.{IsSure, KnowsSure, SettlesAs}
 use Rattle.ipam_shared.specs.Turning.{SeesNext, UnlessSpent, WasDone}
 use Rattle.ipam_shared.proofs.Settled.{still-sure}
 use Rattle.ipam_serve.specs.declared.ends.SessionEnd.{SessionEnd}
 use Rattle.ipam_serve.specs.declared.ends.SessionEnd.TheVariants as end
 use Rattle.ipam_serve.specs.Gains.{Settles, TookTurns}
 use Rattle.ipam_serve.specs.Keeping.{AtKeeper, at_keeper}
-use Rattle.ipam_serve.specs.Sessions.{EndsReply, RoseAt, RoseIf, Unsettles, is_halted, is_read_fault, is_write_fault}
+use Rattle.ipam_serve.specs.Sessions.{CantSettle, EndsReply, RoseAt, RoseIf, Unsettles, is_halted, is_read_fault, is_write_fault}
 use Rattle.ipam_serve.proofs.Entries.{of_slot-told}
 use Rattle.ipam_serve.proofs.Slots.{untold-runs}
 use Rattle.ipam_serve.proofs.Turning.{took-nothing}
@@ -38,6 +38,13 @@ settles-turn old new same sees left enough moment = record {
   at_most = omega arith;
   one_stays = λ some. omega arith;
   moment = moment;
+}
+
+-- it asked whether that is sure, and no turn is left
+pub cant-settle : (pass : PassValue) (sure : Bool) → (IsTrue sure ↔ KnowsSure pass) → sure ≡ false → pass.left < 2 → CantSettle pass
+cant-settle pass sure asked is_not few = record {
+  few = few;
+  unsure = λ knows. let is = asked.1 knows in absurd (cc (is, is_not));
 }
 
 -- what it knew to be sure is so after turns too

@@ -5,15 +5,15 @@ use Rattle.ipam_model.specs.declared.answer.Answer.TheVariants.{Fault}
 use Rattle.ipam_model.specs.declared.entry.Called.{Called as OneCall}
 use Rattle.ipam_model.specs.declared.entry.Entry.{Entry}
 use Rattle.ipam_model.specs.declared.entry.Entry.TheVariants as entry
-use Rattle.ipam_model.specs.History.{Base, slot_of_entry}
+use Rattle.ipam_model.specs.History.{Base}
 use Rattle.ipam_shared.specs.declared.kept.Kept.{Kept}
 use Rattle.ipam_shared.specs.Giving.{Gives}
 use Rattle.ipam_shared.specs.Kept.{KeptFor, Tells}
 use Rattle.ipam_shared.specs.KeptTurning.{IsDone, IsFailed}
 use Rattle.ipam_shared.specs.PassValue.{PassValue}
-use Rattle.ipam_shared.specs.Passes.{IsSamePass}
 use Rattle.ipam_shared.specs.Settling.{FailsToSettle, FindsNoMemory, WasSettled}
 use Rattle.ipam_shared.specs.Turning.{SeesNext, WasDone}
+use Rattle.ipam_serve.specs.Calls.{EachCall}
 
 module _ {D : Type 0} (tells : Tells D) (gives : Gives D) (faults : D → ℕ) where
   -- The call was done, the keeper's count of faults stands, and the answer is no fault; or the call
@@ -31,24 +31,9 @@ module _ {D : Type 0} (tells : Tells D) (gives : Gives D) (faults : D → ℕ) w
     pub is : IsByKeeper slot call before after
     pub stands : KeptFor tells after base (entry.Called call ∷ earlier)
 
-  abbrev pub WasMadeIfCall : Base → (slot : ℕ) → Entry → (earlier : List Entry) → Type 0
-  WasMadeIfCall base slot (entry.Began other request) earlier = Unit {0}
-  WasMadeIfCall base slot (entry.Fed other at live) earlier = Unit {0}
-  WasMadeIfCall base slot (entry.Called call) earlier = WasMade base slot call earlier
-  WasMadeIfCall base slot (entry.Stopped other) earlier = Unit {0}
-
-  -- each call of the slot among these entries, which came after the earlier ones, was made so
-  abbrev pub WereMade : Base → (slot : ℕ) → (entries earlier : List Entry) → Type 0
-  WereMade base slot [] earlier = Unit {0}
-  WereMade base slot (told ∷ entries) earlier =
-      WereMade base slot entries earlier × (slot_of_entry told ≡ slot → WasMadeIfCall base slot told (entries ++ earlier))
-
   -- each call that the slot gained was made so
-  pub record MakesCalls (old new : PassValue) : Type 0 where
-    pub same : IsSamePass old new
-    pub more : List Entry
-    pub grew : new.seen ≡ more ++ old.seen
-    pub made : WereMade old.base old.slot more old.seen
+  abbrev pub MakesCalls : (old new : PassValue) → Type 0
+  MakesCalls old new = EachCall WasMade old new
 
   -- a call that the slot gained failed, and the keeper's count of faults rose in its turn
   pub record KeeperFailed (old new : PassValue) : Type 0 where

@@ -1,7 +1,8 @@
 -- What a session makes of its slot, line by line.
-pub mod Asking
 pub mod Looks
 pub mod Gains
+pub mod Calls
+pub mod Asking
 pub mod Keeping
 pub mod Spans
 pub mod Faults

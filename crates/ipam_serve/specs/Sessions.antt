@@ -11,6 +11,7 @@ use Rattle.ipam_session.specs.declared.replies.Reply.{Reply}
 use Rattle.ipam_session.specs.Replies.{reply_line}
 use Rattle.ipam_shared.specs.PassValue.{PassValue}
 use Rattle.ipam_shared.specs.Passes.{IsSamePass, runs_in}
+use Rattle.ipam_shared.specs.Settling.{KnowsSure}
 use Rattle.ipam_serve.specs.declared.ends.SessionEnd.{SessionEnd}
 use Rattle.ipam_serve.specs.declared.ends.SessionEnd.TheVariants as end
 use Rattle.ipam_serve.specs.declared.ran.Broken.{Broken}
@@ -68,13 +69,14 @@ module _ (at : AtKeeper) where
     pub settles : Settles middle new.server.taker.pass
 
   -- The gate was asked, the line was read and done, all that was told of it was made sure of, and then its
-  -- reply was written.
+  -- reply was written. The pass knows that it is sure.
   pub record Exchanges (x : Exchange) (old new : Talk) : Type 0 where
     pub asks : AsksOnce old new
     pub reads : ReadsLine x.line old.coming new.coming
     pub middle : PassValue
     pub told : ToldLine x.line x.reply old middle new
     pub settled : at.settled new.server.taker.pass
+    pub known : KnowsSure new.server.taker.pass
     pub same : new.opened ≡ old.opened
     pub writes : new.written ≡ append_known old.written (reply_line x.reply)
 
@@ -93,6 +95,12 @@ pub data Rest : Type 0 where
   Unsettled : (line : List ℕ) → Reply → Rest
   Untold : (line : List ℕ) → Reply → Rest
 
+-- what the pass was told of is not known to be sure, and it has no turn to make sure of it, since one stays for
+-- the last stop
+pub record CantSettle (pass : PassValue) : Type 0 where
+  pub few : pass.left < 2
+  pub unsure : KnowsSure pass → ⊥
+
 module _ (at : AtKeeper) where
   -- the gate was asked, and the line was read, and done as far as it came
   pub record LeavesUndone (line : List ℕ) (old new : Talk) : Type 0 where
@@ -103,7 +111,7 @@ module _ (at : AtKeeper) where
     pub keeper : at.came None old.server.taker.pass new.server.taker.pass
 
   -- Why it was not made sure of what a line did: the keeper failed in the turn that should have; there was no
-  -- turn for it, since one stays for the last stop; or there was no memory.
+  -- turn for it; or there was no memory.
   abbrev pub Unsettles : SessionEnd → (old new : PassValue) → Type 0
   Unsettles end.Closed old new = ⊥
   Unsettles end.Cut old new = ⊥
@@ -111,7 +119,7 @@ module _ (at : AtKeeper) where
   Unsettles end.ReadFault old new = ⊥
   Unsettles end.WriteFault old new = ⊥
   Unsettles end.Halted old new = ⊥
-  Unsettles end.Worn old new = (new ≡ old) × (new.left < 2)
+  Unsettles end.Worn old new = (new ≡ old) × CantSettle new
   Unsettles end.Memory old new = at.starved old new
   Unsettles end.KeeperFault old new = at.failed old new
 
@@ -166,12 +174,12 @@ IsReplyUntold (Undone line) = ⊥
 IsReplyUntold (Unsettled line reply) = ⊥
 IsReplyUntold (Untold line reply) = ⊤
 
--- the line that was not done to its end wore the pass or the history out, or no turn was left to make sure of
--- what a line did
+-- the line that was not done to its end wore the pass or the history out, or it was not sure what a line did, and
+-- no turn was left to make sure of it
 abbrev pub IsWornAt : Rest → (first last : PassValue) → Type 0
 IsWornAt Nothing first last = ⊥
 IsWornAt (Undone line) first last = WearsOut (asked_by line) first last
-IsWornAt (Unsettled line reply) first last = last.left < 2
+IsWornAt (Unsettled line reply) first last = CantSettle last
 IsWornAt (Untold line reply) first last = ⊥
 
 -- why the session ends so, where this stands after its whole exchanges, and then these bytes were to come

@@ -11,6 +11,8 @@ ghost use Rattle.ipam_session.specs.Wishes.{IsSoundWish};
 ghost use Rattle.ipam_serve.specs.Spans.{IsTimeless};
 ghost use Rattle.ipam_session.specs.declared.wish.Wish.TheVariants as wish;
 ghost use Rattle.ipam_shared.specs.Passes.{runs_in};
+ghost use Rattle.ipam_serve.specs.Asking.{WasAdmitted};
+ghost use Rattle.ipam_serve.specs.Calls.{EachCall};
 ghost use Rattle.ipam_serve.specs.Faults.{Halts, OnWorn};
 ghost use Rattle.ipam_serve.specs.Keeping.{MakesCalls};
 ghost use Rattle.ipam_serve.specs.Lines.{BreaksOff, Replies, WearsOut, asked_by, is_collect, clock_reading, reply_ran, server_at, timed};
@@ -64,6 +66,7 @@ pub fn answer_line<R: Wait, D: Keeper, G: SessionGate, C: Clock, P: Patience>(
         → IfOk result (λ reply. reply ≡ Reply.Opened opening.now) }
     ensures stops { Halts result (G.stops gate.old) (G.stops gate.new) }
     ensures keeper { MakesCalls D.rows D.given D.faults pass.old pass.new }
+    ensures admitted { EachCall (WasAdmitted G.admits) pass.old pass.new }
     ensures lines { G.lines gate.new ≡ G.lines gate.old }
 {
     match wish_in(rt, alloc, opening, line) {
@@ -112,6 +115,7 @@ fn answer_wish<R: Wait, D: Keeper, G: SessionGate, C: Clock, P: Patience>(
     ensures opened { wish ≡ Wish.Opened
         → IfOk result (λ reply. reply ≡ Reply.Opened opening.now) }
     ensures stops { Halts result (G.stops gate.old) (G.stops gate.new) }
+    ensures admitted { EachCall (WasAdmitted G.admits) pass.old pass.new }
     ensures lines { G.lines gate.new ≡ G.lines gate.old }
 {
     match wish {
@@ -172,6 +176,7 @@ fn answer_call<R: Wait, D: Keeper, G: SessionGate, C: Clock, P: Patience>(
         (server_at pass.old (G.turns gate.old) (C.ahead clock.old))
         (server_at pass.new (G.turns gate.new) (C.ahead clock.new)) }
     ensures stops { Halts result (G.stops gate.old) (G.stops gate.new) }
+    ensures admitted { EachCall (WasAdmitted G.admits) pass.old pass.new }
     ensures lines { G.lines gate.new ≡ G.lines gate.old }
 {
     if pass.running() {
@@ -222,6 +227,7 @@ fn answer_request<R: Wait, D: Keeper, G: SessionGate, C: Clock, P: Patience>(
         (server_at pass.old (G.turns gate.old) (C.ahead clock.old))
         (server_at pass.new (G.turns gate.new) (C.ahead clock.new)) }
     ensures stops { Halts result (G.stops gate.old) (G.stops gate.new) }
+    ensures admitted { EachCall (WasAdmitted G.admits) pass.old pass.new }
     ensures lines { G.lines gate.new ≡ G.lines gate.old }
 {
     if pass.running() {
@@ -252,6 +258,7 @@ fn answer_feed<R: Wait, D: Keeper, G: SessionGate, C: Clock, P: Patience>(
         (server_at pass.old (G.turns gate.old) (C.ahead clock.old))
         (server_at pass.new (G.turns gate.new) (C.ahead clock.new)) }
     ensures stops { Halts result (G.stops gate.old) (G.stops gate.new) }
+    ensures admitted { EachCall (WasAdmitted G.admits) pass.old pass.new }
     ensures lines { G.lines gate.new ≡ G.lines gate.old }
 {
     if !pass.running() {
@@ -410,6 +417,7 @@ fn tell_run<R: Wait, D: Keeper, G: SessionGate, P: Patience>(
         (record { pass = pass.old; turns = G.turns gate.old })
         (record { pass = pass.new; turns = G.turns gate.new }) }
     ensures stops { Halts result (G.stops gate.old) (G.stops gate.new) }
+    ensures admitted { EachCall (WasAdmitted G.admits) pass.old pass.new }
     ensures lines { G.lines gate.new ≡ G.lines gate.old }
 {
     match run_call(rt, alloc, shared, pass, gate, patience, request) {

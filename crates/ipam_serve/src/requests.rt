@@ -6,6 +6,8 @@ ghost use Rattle.ipam_model.specs.declared.request.Request.{Request as Asked};
 ghost use Rattle.ipam_model.specs.CanAnswer.{CanAnswer};
 ghost use Rattle.ipam_model.specs.SoundRequest.{IsSoundRequest};
 ghost use Rattle.ipam_shared.specs.Passes.{runs_in};
+ghost use Rattle.ipam_serve.specs.Asking.{WasAdmitted};
+ghost use Rattle.ipam_serve.specs.Calls.{EachCall};
 ghost use Rattle.ipam_serve.specs.Faults.{Halts, IfAnswered, IsWorn, OnWaits, OnWorn, answer_ran, spared_by};
 ghost use Rattle.ipam_serve.specs.Gains.{request_running, is_early, is_waiting};
 ghost use Rattle.ipam_serve.specs.Keeping.{MakesCalls};
@@ -55,6 +57,7 @@ pub fn run_request<R: Wait, D: Keeper, G: SessionGate, P: Patience>(
     ensures unanswered { OnWorn result (IsUnanswered pass.old pass.new) }
     ensures stops { Halts result (G.stops gate.old) (G.stops gate.new) }
     ensures keeper { MakesCalls D.rows D.given D.faults pass.old pass.new }
+    ensures admitted { EachCall (WasAdmitted G.admits) pass.old pass.new }
     ensures lines { G.lines gate.new ≡ G.lines gate.old }
 {
     patience.enter(rt);
@@ -83,6 +86,7 @@ pub(crate) fn run_on<R: Wait, D: Keeper, G: SessionGate, P: Patience>(
         (record { pass = pass.old; turns = G.turns gate.old })
         (record { pass = pass.new; turns = G.turns gate.new }) }
     ensures stops { Halts result (G.stops gate.old) (G.stops gate.new) }
+    ensures admitted { EachCall (WasAdmitted G.admits) pass.old pass.new }
     ensures lines { G.lines gate.new ≡ G.lines gate.old }
 {
     let mut losses = Losses {
@@ -119,9 +123,10 @@ fn step_on<R: Wait, D: Keeper, G: SessionGate>(
         (record { pass = pass.old; turns = G.turns gate.old })
         (record { pass = pass.new; turns = G.turns gate.new }) }
     ensures stops { Halts result (G.stops gate.old) (G.stops gate.new) }
+    ensures admitted { EachCall (WasAdmitted G.admits) pass.old pass.new }
     ensures lines { G.lines gate.new ≡ G.lines gate.old }
 {
-    match gate.pass(Point::Turn) {
+    match gate.pass(Point::Turn, pass) {
         Passed::Stop => Err(Broken::Halted),
         Passed::Go => call(rt, alloc, shared, pass, losses),
     }
@@ -143,6 +148,7 @@ fn run_fed<R: Wait, D: Keeper, G: SessionGate, P: Patience>(
         (record { pass = pass.old; turns = G.turns gate.old })
         (record { pass = pass.new; turns = G.turns gate.new }) }
     ensures stops { Halts result (G.stops gate.old) (G.stops gate.new) }
+    ensures admitted { EachCall (WasAdmitted G.admits) pass.old pass.new }
     ensures lines { G.lines gate.new ≡ G.lines gate.old }
 {
     match run_on(rt, alloc, shared, pass, gate, patience) {
@@ -179,6 +185,7 @@ pub fn run_feed<R: Wait, D: Keeper, G: SessionGate, P: Patience>(
     ensures runs { OnWorn result (IsSome (runs_in pass.new)) }
     ensures stops { Halts result (G.stops gate.old) (G.stops gate.new) }
     ensures keeper { MakesCalls D.rows D.given D.faults pass.old pass.new }
+    ensures admitted { EachCall (WasAdmitted G.admits) pass.old pass.new }
     ensures lines { G.lines gate.new ≡ G.lines gate.old }
 {
     patience.enter(rt);
@@ -222,6 +229,7 @@ pub fn run_call<R: Wait, D: Keeper, G: SessionGate, P: Patience>(
     ensures unanswered { OnWorn result (IsUnanswered pass.old pass.new) }
     ensures stops { Halts result (G.stops gate.old) (G.stops gate.new) }
     ensures keeper { MakesCalls D.rows D.given D.faults pass.old pass.new }
+    ensures admitted { EachCall (WasAdmitted G.admits) pass.old pass.new }
     ensures lines { G.lines gate.new ≡ G.lines gate.old }
 {
     match run_request(rt, alloc, shared, pass, gate, patience, request) {
@@ -251,6 +259,7 @@ fn feed_own<R: Wait, D: Keeper, G: SessionGate, P: Patience>(
         (record { pass = pass.old; turns = G.turns gate.old })
         (record { pass = pass.new; turns = G.turns gate.new }) }
     ensures stops { Halts result (G.stops gate.old) (G.stops gate.new) }
+    ensures admitted { EachCall (WasAdmitted G.admits) pass.old pass.new }
     ensures lines { G.lines gate.new ≡ G.lines gate.old }
 {
     let Request::Collect(asked) = request else {

@@ -7,9 +7,11 @@ ghost use Rattle.ipam_serve.specs.Lines.{server_at};
 ghost use Rattle.ipam_session.specs.Replies.{reply_line};
 ghost use Rattle.ipam_shared.specs.PassValue.{PassValue};
 ghost use Rattle.ipam_shared.specs.Passes.{IsSamePass, runs_in};
+ghost use Rattle.ipam_serve.specs.Asking.{WasAdmitted};
+ghost use Rattle.ipam_serve.specs.Calls.{EachCall};
 ghost use Rattle.ipam_serve.specs.Keeping.{at_keeper};
 ghost use Rattle.ipam_serve.specs.Runs.{IsAtRest};
-ghost use Rattle.ipam_shared.specs.Settling.{IsSure, WasSettled};
+ghost use Rattle.ipam_shared.specs.Settling.{IsSure, KnowsSure, WasSettled};
 ghost use Rattle.ipam_serve.specs.Gains.{Settles};
 ghost use Rattle.ipam_serve.specs.Sessions.{Ends, EndsReply, Exchange, Exchanges, IsCause, Nothing, ReadsLine, RoseAt, RoseIf, Serves, Session, StopsLast, end_of, is_halted, is_read_fault, is_write_fault, talk_at};
 
@@ -48,6 +50,7 @@ pub fn serve_session<R: Wait, L: Link, D: Keeper, G: SessionGate, C: Clock, P: P
         (talk_at (server_at pass.new (G.turns gate.new) (C.ahead clock.new)) opening.now (G.lines gate.new) (prepend_known held (L.left link.new)) (L.written link.new)) }
     ensures idle { runs_in pass.new ≡ None }
     ensures same { IsSamePass pass.old pass.new }
+    ensures admitted { EachCall (WasAdmitted G.admits) pass.old pass.new }
     ensures reads { RoseIf (is_read_fault result) (L.read_faults link.old) (L.read_faults link.new) }
     ensures writes { RoseIf (is_write_fault result) (L.write_faults link.old) (L.write_faults link.new) }
     ensures stops { RoseIf (is_halted result) (G.stops gate.old) (G.stops gate.new) }
@@ -79,6 +82,7 @@ fn serve_lines<R: Wait, D: Keeper, G: SessionGate, C: Clock, P: Patience, L: Lin
         (talk_at (server_at pass.old (G.turns gate.old) (C.ahead clock.old)) opening.now (G.lines gate.old) (L.left link.old) (L.written link.old))
         (talk_at (server_at pass.new (G.turns gate.new) (C.ahead clock.new)) opening.now (G.lines gate.new) (prepend_known held (L.left link.new)) (L.written link.new)) }
     ensures lock { pass.new.lock ≡ pass.old.lock }
+    ensures admitted { EachCall (WasAdmitted G.admits) pass.old pass.new }
     ensures reads { RoseIf (is_read_fault result) (L.read_faults link.old) (L.read_faults link.new) }
     ensures writes { RoseIf (is_write_fault result) (L.write_faults link.old) (L.write_faults link.new) }
     ensures stops { RoseIf (is_halted result) (G.stops gate.old) (G.stops gate.new) }
@@ -120,11 +124,12 @@ fn exchange<R: Wait, D: Keeper, G: SessionGate, C: Clock, P: Patience, L: Link>(
     ensures rests { OnOk result (IsAtRest (runs_in pass.new)) }
     ensures sure { OnOk result (IsSure D.rows D.settled pass.new) }
     ensures lock { pass.new.lock ≡ pass.old.lock }
+    ensures admitted { EachCall (WasAdmitted G.admits) pass.old pass.new }
     ensures reads { RoseAt is_read_fault result (L.read_faults link.old) (L.read_faults link.new) }
     ensures writes { RoseAt is_write_fault result (L.write_faults link.old) (L.write_faults link.new) }
     ensures stops { RoseAt is_halted result (G.stops gate.old) (G.stops gate.new) }
 {
-    match read_line(gate, link, lines) {
+    match read_line(pass, gate, link, lines) {
         Ok(line) => {
             let told = answer_line(
                 rt, alloc, shared, opening, pass, gate, clock, patience, line,
@@ -150,6 +155,7 @@ fn end_of(broken: Broken) -> SessionEnd
 
 /// Reads the next line, once the gate lets it.
 fn read_line<G: SessionGate, L: Link>(
+    pass: &Pass,
     gate: &mut G,
     link: &mut L,
     lines: &mut Lines<SESSION_LINE_BYTES>,
@@ -164,7 +170,7 @@ fn read_line<G: SessionGate, L: Link>(
     ensures writes { RoseAt is_write_fault result (L.write_faults link.old) (L.write_faults link.new) }
     ensures stops { RoseAt is_halted result (G.stops gate.old) (G.stops gate.new) }
 {
-    match gate.pass(Point::Line) {
+    match gate.pass(Point::Line, pass) {
         Passed::Go => next_line(link, lines),
         Passed::Stop => Err(SessionEnd::Halted),
     }
@@ -207,6 +213,7 @@ fn settle_and_reply<R: Wait, D: Keeper, P: Patience, L: Link>(
     requires sure { IsSure D.rows D.settled pass.old }
     ensures settles { Settles pass.old pass.new }
     ensures settled { OnOk result (WasSettled D.rows D.settled pass.new) }
+    ensures known { OnOk result (KnowsSure pass.new) }
     ensures sure { OnOk result (IsSure D.rows D.settled pass.new) }
     ensures wrote { OnOk result (L.written link.new ≡ append_known (L.written link.old) (reply_line reply)) }
     ensures ended { IfErr result (λ how. EndsReply (at_keeper D.rows D.settled D.given D.faults D.broken) how reply

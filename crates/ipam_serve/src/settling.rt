@@ -3,7 +3,7 @@ ghost use Rattle.std.specs.Prelude.{◌≡◌, ◌≢◌, ◌⊎◌, IfErr, OnOk
 ghost use Rattle.ipam_serve.specs.Gains.{Settles};
 ghost use Rattle.ipam_serve.specs.Keeping.{at_keeper};
 ghost use Rattle.ipam_serve.specs.Sessions.{Unsettles};
-ghost use Rattle.ipam_shared.specs.Settling.{IsSure, WasSettled};
+ghost use Rattle.ipam_shared.specs.Settling.{IsSure, KnowsSure, WasSettled};
 
 use crate::ends::SessionEnd;
 use crate::patience::Patience;
@@ -22,6 +22,7 @@ pub(crate) fn settle<R: Wait, D: Keeper, P: Patience>(
     requires sure { IsSure D.rows D.settled pass.old }
     ensures settles { Settles pass.old pass.new }
     ensures settled { OnOk result (WasSettled D.rows D.settled pass.new) }
+    ensures known { OnOk result (KnowsSure pass.new) }
     ensures sure { OnOk result (IsSure D.rows D.settled pass.new) }
     ensures unsettled { IfErr result (λ how. Unsettles (at_keeper D.rows D.settled D.given D.faults D.broken) how pass.old pass.new) }
 {

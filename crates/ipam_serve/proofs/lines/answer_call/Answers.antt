@@ -3,6 +3,7 @@ use Rattle.ipam_session.specs.declared.wish.Wish.TheVariants as wish
 use Rattle.ipam_shared.specs.Passes.{runs_in}
 use Rattle.ipam_serve.proofs.LineParts.{call-timeless, call-told, call-waiting, none-waits, rests-none, rests-waits}
 use Rattle.ipam_serve.proofs.Outcomes.{comes-called, comes-memory, comes-nothing}
+use Rattle.ipam_serve.proofs.Admitting.{admits-nothing}
 use Rattle.ipam_serve.proofs.lines.answer_call.Goals as goal
 use Rattle.ipam_serve.specs.Lines.{server_at}
 
@@ -42,3 +43,12 @@ returns-in-Ok-Runs-clause-comes g c =
 
 pub returns-in-Err-clause-comes : goal.returns-in-Err-clause-comes
 returns-in-Err-clause-comes g c = comes-memory g.D.Keeper.rows g.D.Keeper.given g.D.Keeper.faults (server_at c.args.pass.now (g.G.SessionGate.turns c.args.gate.now) (g.C.Clock.ahead c.args.clock.now)) (Some (wish.Cni c.args.env c.args.stdin))
+
+pub returns-then-running-clause-admitted : goal.returns-then-running-clause-admitted
+returns-then-running-clause-admitted g c = admits-nothing g.G.SessionGate.admits c.args.pass.now
+
+pub returns-in-Ok-Told-clause-admitted : goal.returns-in-Ok-Told-clause-admitted
+returns-in-Ok-Told-clause-admitted g c = admits-nothing g.G.SessionGate.admits c.args.pass.now
+
+pub returns-in-Err-clause-admitted : goal.returns-in-Err-clause-admitted
+returns-in-Err-clause-admitted g c = admits-nothing g.G.SessionGate.admits c.args.pass.now

@@ -5,6 +5,7 @@ use Rattle.ipam_serve.specs.Gains.{is_waiting}
 use Rattle.ipam_serve.specs.Lines.{server_at}
 use Rattle.ipam_serve.proofs.LineParts.{feed-idle, none-waits, rests-none, rests-waits}
 use Rattle.ipam_serve.proofs.Outcomes.{comes-fed, comes-nothing, comes-unfed}
+use Rattle.ipam_serve.proofs.Admitting.{admits-nothing}
 use Rattle.ipam_serve.proofs.lines.answer_feed.Goals as goal
 
 pub run_feed-requires-clause-waits : goal.run_feed-requires-clause-waits
@@ -36,3 +37,6 @@ returns-in-Err-clause-comes g c =
     comes-unfed g.D.Keeper.rows g.D.Keeper.given g.D.Keeper.faults (server_at c.args.pass.now (g.G.SessionGate.turns c.args.gate.now) (g.C.Clock.ahead c.args.clock.now))
     (server_at c.run_feed.new.pass (g.G.SessionGate.turns c.run_feed.new.gate) (g.C.Clock.ahead c.now-at.new.self))
     c.args.live.now c.now-at.result waits c.now-at.ensures c.run_feed.ensures.keeper c.in-Err.broken c.in-Err.ensures.broken c.in-Err.ensures.worn c.in-Err.ensures.runs
+
+pub returns-then-not-running-clause-admitted : goal.returns-then-not-running-clause-admitted
+returns-then-not-running-clause-admitted g c = admits-nothing g.G.SessionGate.admits c.args.pass.now

@@ -1,6 +1,7 @@
 use Rattle.std.proofs.Common.{Err, ap}
 use Rattle.ipam_serve.proofs.LineParts.{breaks-at-once, unread}
 use Rattle.ipam_serve.proofs.Keeping.{makes-nothing}
+use Rattle.ipam_serve.proofs.Admitting.{admits-nothing}
 use Rattle.ipam_serve.proofs.lines.answer_line.Goals as goal
 use Rattle.ipam_serve.specs.Lines.{server_at}
 
@@ -31,3 +32,9 @@ returns-in-Err-Unreadable-clause-keeper g c = makes-nothing g.D.Keeper.rows g.D.
 
 pub returns-in-Err-Memory-clause-keeper : goal.returns-in-Err-Memory-clause-keeper
 returns-in-Err-Memory-clause-keeper g c = makes-nothing g.D.Keeper.rows g.D.Keeper.given g.D.Keeper.faults c.args.pass.now
+
+pub returns-in-Err-Unreadable-clause-admitted : goal.returns-in-Err-Unreadable-clause-admitted
+returns-in-Err-Unreadable-clause-admitted g c = admits-nothing g.G.SessionGate.admits c.args.pass.now
+
+pub returns-in-Err-Memory-clause-admitted : goal.returns-in-Err-Memory-clause-admitted
+returns-in-Err-Memory-clause-admitted g c = admits-nothing g.G.SessionGate.admits c.args.pass.now

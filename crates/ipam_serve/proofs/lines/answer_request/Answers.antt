@@ -3,6 +3,7 @@ use Rattle.ipam_session.specs.declared.wish.Wish.TheVariants as wish
 use Rattle.ipam_shared.specs.Passes.{runs_in}
 use Rattle.ipam_serve.proofs.LineParts.{none-waits, request-waiting, rests-none, rests-waits}
 use Rattle.ipam_serve.proofs.Outcomes.{comes-nothing, comes-ran, comes-unrun}
+use Rattle.ipam_serve.proofs.Admitting.{admits-nothing}
 use Rattle.ipam_serve.proofs.lines.answer_request.Goals as goal
 use Rattle.ipam_serve.specs.Lines.{server_at}
 
@@ -34,3 +35,6 @@ returns-in-Err-clause-comes g c =
 
 pub run_request-requires-clause-sound : goal.run_request-requires-clause-sound
 run_request-requires-clause-sound g c = c.set_time-at.ensures.sound c.requires.sound
+
+pub returns-then-running-clause-admitted : goal.returns-then-running-clause-admitted
+returns-then-running-clause-admitted g c = admits-nothing g.G.SessionGate.admits c.args.pass.now

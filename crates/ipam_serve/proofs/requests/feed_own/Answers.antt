@@ -2,6 +2,7 @@ use Rattle.ipam_model.specs.declared.request.Request.TheVariants.{Collect}
 use Rattle.ipam_shared.specs.Passes.{runs_in}
 use Rattle.ipam_serve.proofs.Onward.{own-fed-of, own-memory, own-unfed-of}
 use Rattle.ipam_serve.proofs.Running.{never-early}
+use Rattle.ipam_serve.proofs.Admitting.{admits-nothing}
 use Rattle.ipam_serve.proofs.requests.feed_own.Goals as goal
 
 pub returns-in_default-clause-fed : goal.returns-in_default-clause-fed
@@ -28,3 +29,6 @@ pub run_feed-requires-clause-sound : goal.run_feed-requires-clause-sound
 run_feed-requires-clause-sound g c =
     let sound = rw c.in-Collect.is at c.requires.sound in
     rw c.as_slice-live.ensures sound.live
+
+pub returns-in_default-clause-admitted : goal.returns-in_default-clause-admitted
+returns-in_default-clause-admitted g c = admits-nothing g.G.SessionGate.admits c.args.pass.now

@@ -5,6 +5,7 @@ use Rattle.ipam_serve.proofs.Running.{begins-calls-part}
 use Rattle.ipam_serve.proofs.Keeping.{makes-then}
 use Rattle.ipam_serve.proofs.Wearing.{worn-more, worn-waited}
 use Rattle.ipam_serve.specs.Spans.{waits_of}
+use Rattle.ipam_serve.proofs.Admitting.{admits-then}
 use Rattle.ipam_serve.proofs.requests.run_call.Goals as goal
 
 pub returns-in-Ok-Answered-clause-ran : goal.returns-in-Ok-Answered-clause-ran
@@ -66,3 +67,7 @@ returns-in-Ok-Answered-clause-can_answer g c = rw c.in-Ok-Answered.field-0-is at
 
 pub returns-in-Ok-Answered-clause-idle : goal.returns-in-Ok-Answered-clause-idle
 returns-in-Ok-Answered-clause-idle g c = rw c.in-Ok-Answered.field-0-is at c.in-Ok-Answered.ensures.idle
+
+pub returns-in-Ok-Waits-clause-admitted : goal.returns-in-Ok-Waits-clause-admitted
+returns-in-Ok-Waits-clause-admitted g c =
+    admits-then g.G.SessionGate.admits c.args.pass.now c.run_request.new.pass c.feed_own.new.pass c.run_request.ensures.admitted c.feed_own.ensures.admitted

@@ -5,6 +5,8 @@ use Rattle.ipam_serve.proofs.Running.{not-begun, waiting-some}
 use Rattle.ipam_serve.proofs.Turning.{took-lock}
 use Rattle.ipam_serve.proofs.Keeping.{makes-fed, makes-none, makes-then}
 use Rattle.ipam_serve.proofs.Wearing.{worn-then}
+use Rattle.ipam_serve.specs.declared.turns.Feeding.TheVariants as feeding
+use Rattle.ipam_serve.proofs.Admitting.{admits-fed, admits-none, admits-then}
 use Rattle.ipam_serve.proofs.requests.run_feed.Goals as goal
 
 pub run_fed-requires-clause-runs : goal.run_fed-requires-clause-runs
@@ -58,3 +60,15 @@ returns-in-Ok-Fed-clause-runs g c = c.run_fed.ensures.went.runs
 
 pub run_fed-requires-clause-lock : goal.run_fed-requires-clause-lock
 run_fed-requires-clause-lock g c = took-lock c.args.pass.now c.feed.new.pass _ 0 (rw c.in-Ok-Fed.field-0-is at c.in-Ok-Fed.ensures.fed).0 ∙ c.requires.lock
+
+pub returns-in-Ok-Fed-clause-admitted : goal.returns-in-Ok-Fed-clause-admitted
+returns-in-Ok-Fed-clause-admitted g c =
+    admits-then g.G.SessionGate.admits c.args.pass.now c.feed.new.pass c.run_fed.new.pass
+    (admits-fed g.G.SessionGate.admits c.args.pass.now c.feed.new.pass c.args.live.now c.args.at feeding.Fed (rw c.in-Ok-Fed.field-0-is at c.in-Ok-Fed.ensures.fed)) c.run_fed.ensures.admitted
+
+pub returns-in-Ok-TooSoon-clause-admitted : goal.returns-in-Ok-TooSoon-clause-admitted
+returns-in-Ok-TooSoon-clause-admitted g c =
+    admits-fed g.G.SessionGate.admits c.args.pass.now c.feed.new.pass c.args.live.now c.args.at feeding.TooSoon (rw c.in-Ok-TooSoon.field-0-is at c.in-Ok-TooSoon.ensures.fed)
+
+pub returns-in-Err-clause-admitted : goal.returns-in-Err-clause-admitted
+returns-in-Err-clause-admitted g c = admits-none g.G.SessionGate.admits c.args.pass.now c.feed.new.pass 1 c.in-Err.ensures.not_fed

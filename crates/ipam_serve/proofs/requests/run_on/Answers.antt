@@ -4,6 +4,7 @@ use Rattle.ipam_serve.proofs.Onward.{goes-broken, goes-ran}
 use Rattle.ipam_serve.proofs.Running.{far-start, far-step, made-asked, same-some}
 use Rattle.ipam_serve.proofs.Turning.{took-lock}
 use Rattle.ipam_serve.proofs.Keeping.{makes-nothing, makes-then}
+use Rattle.ipam_serve.proofs.Admitting.{admits-nothing, admits-then}
 use Rattle.ipam_serve.proofs.requests.run_on.Goals as goal
 
 pub loop-ran-init : goal.loop-ran-init
@@ -14,6 +15,7 @@ loop-ran-init g c = record {
   stops = refl;
   lines = refl;
   keeper = makes-nothing g.D.Keeper.rows g.D.Keeper.given g.D.Keeper.faults c.args.pass.now;
+  admitted = admits-nothing g.G.SessionGate.admits c.args.pass.now;
 }
 
 pub step_on-requires-clause-lock : goal.step_on-requires-clause-lock
@@ -55,4 +57,13 @@ loop-ran-preserved g c =
       stops = c.in-Ok-None.ensures.stops ∙ c.loop-ran.invariant.stops;
       lines = c.step_on.ensures.lines ∙ c.loop-ran.invariant.lines;
       keeper = makes-then g.D.Keeper.rows g.D.Keeper.given g.D.Keeper.faults c.args.pass.now c.loop-ran.pass c.step_on.new.pass c.loop-ran.invariant.keeper s.keeper;
+      admitted = admits-then g.G.SessionGate.admits c.args.pass.now c.loop-ran.pass c.step_on.new.pass c.loop-ran.invariant.admitted c.step_on.ensures.admitted;
     }
+
+pub returns-in-Ok-Some-clause-admitted : goal.returns-in-Ok-Some-clause-admitted
+returns-in-Ok-Some-clause-admitted g c =
+    admits-then g.G.SessionGate.admits c.args.pass.now c.loop-ran.pass c.step_on.new.pass c.loop-ran.invariant.admitted c.step_on.ensures.admitted
+
+pub returns-in-Err-clause-admitted : goal.returns-in-Err-clause-admitted
+returns-in-Err-clause-admitted g c =
+    admits-then g.G.SessionGate.admits c.args.pass.now c.loop-ran.pass c.step_on.new.pass c.loop-ran.invariant.admitted c.step_on.ensures.admitted

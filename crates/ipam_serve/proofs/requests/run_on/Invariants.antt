@@ -1,5 +1,7 @@
 use Rattle.std.proofs.Common.{◌≡◌, None, IsSome}
 use Rattle.ipam_shared.specs.Passes.{runs_in}
+use Rattle.ipam_serve.specs.Asking.{WasAdmitted}
+use Rattle.ipam_serve.specs.Calls.{EachCall}
 use Rattle.ipam_serve.specs.Gains.{request_running}
 use Rattle.ipam_serve.specs.Keeping.{MakesCalls}
 use Rattle.ipam_serve.specs.Runs.{WentOn}
@@ -13,6 +15,7 @@ invariant-loop-ran g l = record {
   stops : g.G.SessionGate.stops l.gate ≡ g.G.SessionGate.stops l.initial.gate;
   lines : g.G.SessionGate.lines l.gate ≡ g.G.SessionGate.lines l.initial.gate;
   keeper : MakesCalls g.D.Keeper.rows g.D.Keeper.given g.D.Keeper.faults l.initial.pass l.pass;
+  admitted : EachCall (WasAdmitted g.G.SessionGate.admits) l.initial.pass l.pass;
 }
 
 -- how many turns are left

@@ -4,6 +4,7 @@ use Rattle.ipam_serve.proofs.Running.{begun-asked, not-begun, some-asked}
 use Rattle.ipam_serve.proofs.Turning.{took-lock}
 use Rattle.ipam_serve.proofs.Keeping.{makes-begun, makes-none, makes-then}
 use Rattle.ipam_serve.proofs.Wearing.{worn-then}
+use Rattle.ipam_serve.proofs.Admitting.{admits-begun, admits-none, admits-then}
 use Rattle.ipam_serve.proofs.requests.run_request.Goals as goal
 
 pub run_on-requires-clause-runs : goal.run_on-requires-clause-runs
@@ -56,3 +57,11 @@ returns-in-Ok-clause-worn g c = worn-so c.run_on.result _ _ (worn-then c.args.pa
 
 pub run_on-requires-clause-lock : goal.run_on-requires-clause-lock
 run_on-requires-clause-lock g c = took-lock c.args.pass.now c.begin.new.pass _ 0 c.in-Ok.ensures.begun ∙ c.requires.lock
+
+pub returns-in-Ok-clause-admitted : goal.returns-in-Ok-clause-admitted
+returns-in-Ok-clause-admitted g c =
+    admits-then g.G.SessionGate.admits c.args.pass.now c.begin.new.pass c.run_on.new.pass
+    (admits-begun g.G.SessionGate.admits c.args.pass.now c.begin.new.pass c.args.request.now c.in-Ok.ensures.begun) c.run_on.ensures.admitted
+
+pub returns-in-Err-clause-admitted : goal.returns-in-Err-clause-admitted
+returns-in-Err-clause-admitted g c = admits-none g.G.SessionGate.admits c.args.pass.now c.begin.new.pass 1 c.in-Err.ensures.not_begun

@@ -10,6 +10,7 @@ use Rattle.ipam_serve.proofs.Routing.{same-rests}
 use Rattle.ipam_serve.proofs.Sessions.{ends-nothing, ends-told, ends-undone, exchanged}
 use Rattle.ipam_serve.proofs.Reading.{broken-reads, broken-stops, broken-writes}
 use Rattle.ipam_serve.proofs.Settled.{rose-after, rose-halts, took-sure}
+use Rattle.ipam_serve.proofs.Admitting.{admits-nothing, admits-settles, admits-then}
 use Rattle.ipam_serve.proofs.session.exchange.Goals as goal
 
 pub settle_and_reply-requires-clause-lock : goal.settle_and_reply-requires-clause-lock
@@ -30,7 +31,7 @@ returns-in-Ok-told-clause-exchanged g c =
     (ap (prepend_known c.read_line.new.lines) c.settle_and_reply.ensures.left) c.read_line.ensures.written
     (c.answer_line-told.ensures.lines ∙ c.read_line.ensures.asked) c.answer_line-told.new.pass c.in-Ok-told.reply c.in-Ok-told.ensures.replied c.in-Ok-told.ensures.opened
     (λ r. came-so g.D.Keeper.rows g.D.Keeper.given g.D.Keeper.faults old.server.taker (record { pass = c.answer_line-told.new.pass; turns = new.server.taker.turns }) _ r.answer 1 r.does c.answer_line-told.ensures.keeper)
-    c.settle_and_reply.ensures.settles c.settle_and_reply.result refl c.settle_and_reply.ensures.settled c.settle_and_reply.ensures.wrote
+    c.settle_and_reply.ensures.settles c.settle_and_reply.result refl c.settle_and_reply.ensures.settled c.settle_and_reply.ensures.known c.settle_and_reply.ensures.wrote
 
 pub returns-in-Ok-told-clause-ended : goal.returns-in-Ok-told-clause-ended
 returns-in-Ok-told-clause-ended g c =
@@ -91,3 +92,11 @@ returns-in-Err-told-clause-writes g c = rw c.end_of.ensures (broken-writes c.in-
 
 pub returns-in-Err-told-clause-stops : goal.returns-in-Err-told-clause-stops
 returns-in-Err-told-clause-stops g c = rw c.end_of.ensures (broken-stops c.in-Err-told.broken _ _ _ c.in-Ok.ensures.stops c.in-Err-told.ensures.stops)
+
+pub returns-in-Ok-told-clause-admitted : goal.returns-in-Ok-told-clause-admitted
+returns-in-Ok-told-clause-admitted g c =
+    admits-then g.G.SessionGate.admits c.args.pass.now c.answer_line-told.new.pass c.settle_and_reply.new.pass c.answer_line-told.ensures.admitted
+    (admits-settles g.G.SessionGate.admits c.answer_line-told.new.pass c.settle_and_reply.new.pass c.settle_and_reply.ensures.settles)
+
+pub returns-in-Err-clause-admitted : goal.returns-in-Err-clause-admitted
+returns-in-Err-clause-admitted g c = admits-nothing g.G.SessionGate.admits c.args.pass.now

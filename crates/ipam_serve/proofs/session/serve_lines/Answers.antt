@@ -4,6 +4,7 @@ use Rattle.ipam_serve.specs.Sessions.{Talk, is_halted, is_read_fault, is_write_f
 use Rattle.ipam_serve.specs.Keeping.{at_keeper}
 use Rattle.ipam_serve.proofs.Sessions.{talks-none}
 use Rattle.ipam_serve.proofs.Settled.{rose-after}
+use Rattle.ipam_serve.proofs.Admitting.{admits-nothing, admits-then}
 use Rattle.ipam_serve.proofs.session.serve_lines.Goals as goal
 use Rattle.ipam_serve.specs.Lines.{server_at}
 
@@ -28,6 +29,7 @@ loop-preserved g c =
       rests = c.in-Ok.ensures.rests;
       sure = c.in-Ok.ensures.sure;
       talks = (next.0 ∷ made.0, (between, made.1, next.1));
+      admitted = admits-then g.G.SessionGate.admits c.args.pass.now c.loop.pass c.exchange.new.pass c.loop.invariant.admitted c.exchange.ensures.admitted;
       reads = c.in-Ok.ensures.reads ∙ c.loop.invariant.reads;
       writes = c.in-Ok.ensures.writes ∙ c.loop.invariant.writes;
       stops = c.in-Ok.ensures.stops ∙ c.loop.invariant.stops;
@@ -42,6 +44,7 @@ loop-init g c = record {
   sure = c.requires.sure;
   talks = talks-none (at_keeper g.D.Keeper.rows g.D.Keeper.settled g.D.Keeper.given g.D.Keeper.faults g.D.Keeper.broken) (server_at c.args.pass.now (g.G.SessionGate.turns c.args.gate.now) (g.C.Clock.ahead c.args.clock.now))
       c.args.opening.now (g.G.SessionGate.lines c.args.gate.now) (g.L.Source.left c.args.link.now) (g.L.Sink.written c.args.link.now) c.new-lines.result c.new-lines.ensures;
+  admitted = admits-nothing g.G.SessionGate.admits c.args.pass.now;
   reads = refl;
   writes = refl;
   stops = refl;
@@ -64,3 +67,7 @@ returns-in-Err-clause-writes g c = rose-after is_write_fault (Err c.in-Err.end) 
 
 pub returns-in-Err-clause-stops : goal.returns-in-Err-clause-stops
 returns-in-Err-clause-stops g c = rose-after is_halted (Err c.in-Err.end) _ _ _ c.loop.invariant.stops c.in-Err.ensures.stops
+
+pub returns-in-Err-clause-admitted : goal.returns-in-Err-clause-admitted
+returns-in-Err-clause-admitted g c =
+    admits-then g.G.SessionGate.admits c.args.pass.now c.loop.pass c.exchange.new.pass c.loop.invariant.admitted c.exchange.ensures.admitted

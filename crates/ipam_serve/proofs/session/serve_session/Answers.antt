@@ -3,6 +3,7 @@ use Rattle.ipam_shared.specs.PassValue.{PassValue}
 use Rattle.ipam_shared.specs.Settling.{IsSure}
 use Rattle.ipam_serve.specs.Keeping.{at_keeper}
 use Rattle.ipam_serve.proofs.Sessions.{idle-unsure, same-unsure, serves-same, serves-stop, serves-unsure, session-so}
+use Rattle.ipam_serve.proofs.Admitting.{admits-stop, admits-then, admits-unsure}
 use Rattle.ipam_serve.proofs.session.serve_session.Goals as goal
 
 pub serve_lines-end-requires-clause-lock : goal.serve_lines-end-requires-clause-lock
@@ -33,3 +34,9 @@ pub returns-clause-same : goal.returns-clause-same
 returns-clause-same g c =
     same-unsure c.args.pass.now c.forget_sure.new.self c.stop_last.new.pass c.forget_sure.ensures
     (serves-same (at_keeper g.D.Keeper.rows g.D.Keeper.settled g.D.Keeper.given g.D.Keeper.faults g.D.Keeper.broken) c.serve_lines-end.result _ _ c.stop_last.new.pass c.serve_lines-end.ensures.served.1 c.stop_last.ensures.stopped)
+
+pub returns-clause-admitted : goal.returns-clause-admitted
+returns-clause-admitted g c =
+    admits-then g.G.SessionGate.admits c.args.pass.now c.forget_sure.new.self c.stop_last.new.pass (admits-unsure g.G.SessionGate.admits c.args.pass.now c.forget_sure.new.self c.forget_sure.ensures)
+    (admits-then g.G.SessionGate.admits c.forget_sure.new.self c.serve_lines-end.new.pass c.stop_last.new.pass c.serve_lines-end.ensures.admitted
+    (admits-stop g.G.SessionGate.admits c.serve_lines-end.new.pass c.stop_last.new.pass c.stop_last.ensures.stopped))

@@ -8,6 +8,9 @@ use Rattle.ipam_serve.proofs.session.settle_and_reply.Goals as goal
 pub returns-in-Ok-clause-settled : goal.returns-in-Ok-clause-settled
 returns-in-Ok-clause-settled g c = on-ok c.write_reply.result c.in-Ok.ensures.settled
 
+pub returns-in-Ok-clause-known : goal.returns-in-Ok-clause-known
+returns-in-Ok-clause-known g c = on-ok c.write_reply.result c.in-Ok.ensures.known
+
 pub returns-in-Ok-clause-sure : goal.returns-in-Ok-clause-sure
 returns-in-Ok-clause-sure g c = on-ok c.write_reply.result c.in-Ok.ensures.sure
 

@@ -1,7 +1,7 @@
 use Rattle.std.proofs.Common.{◌≤◌, refl}
 use Rattle.ipam_shared.proofs.Settled.{known-settled}
 use Rattle.ipam_serve.proofs.Coming.{one-err, sees-none, spent-not}
-use Rattle.ipam_serve.proofs.Settled.{ends-so, settles-none, settles-turn}
+use Rattle.ipam_serve.proofs.Settled.{cant-settle, ends-so, settles-none, settles-turn}
 use Rattle.ipam_serve.proofs.settling.settle.Goals as goal
 
 pub returns-then-is_sure-clause-settles : goal.returns-then-is_sure-clause-settles
@@ -15,7 +15,16 @@ pub returns-then-left-lt2-clause-settles : goal.returns-then-left-lt2-clause-set
 returns-then-left-lt2-clause-settles g c = settles-none c.args.pass.now
 
 pub returns-then-left-lt2-clause-unsettled : goal.returns-then-left-lt2-clause-unsettled
-returns-then-left-lt2-clause-unsettled g c = (refl, rw (← c.left.ensures) c.if-left-lt2.true)
+returns-then-left-lt2-clause-unsettled g c = (
+  refl,
+  cant-settle c.args.pass.now c.is_sure.result c.is_sure.ensures.sure c.if-is_sure.false (rw (← c.left.ensures) c.if-left-lt2.true),
+)
+
+pub returns-then-is_sure-clause-known : goal.returns-then-is_sure-clause-known
+returns-then-is_sure-clause-known g c = c.is_sure.ensures.sure.0 c.if-is_sure.true
+
+pub returns-in-Ok-clause-known : goal.returns-in-Ok-clause-known
+returns-in-Ok-clause-known g c = c.in-Ok.ensures.knows.0
 
 pub returns-in-Ok-clause-sure : goal.returns-in-Ok-clause-sure
 returns-in-Ok-clause-sure g c = c.in-Ok.ensures.knows.1
