@@ -33,11 +33,17 @@ pub enum StorageFault {
     Journal,
     /// The log is there with pages in it, and the file is not.
     LogAlone,
+    /// The log is there with pages in it, and the file has no byte.
+    EmptyWithLog,
+    /// The log's header is damaged, or a write of it that has others behind it.
+    LogDamaged,
     NoSpace,
     /// A call of the system failed for another cause.
     DiskFailed,
     /// The file or its log was removed, renamed or replaced since it was opened.
     FileGone,
+    /// The log was made shorter since it was last written.
+    LogCut,
     /// A row is no text, whole number and text, its revision is negative, or keys are not in order.
     BadRow,
     /// The database refused a statement, as for a check of its own or the size of a text.
@@ -68,10 +74,15 @@ impl fmt::Display for StorageFault {
             StorageFault::Journal =>
                 "SQLite left a rollback journal beside the database file; open it once with sqlite3",
             StorageFault::LogAlone => "the database file is missing, and its log is there",
+            StorageFault::EmptyWithLog => "the database file is empty, and its log is not",
+            StorageFault::LogDamaged =>
+                "the log of the database file is damaged before its last write, so that later writes would be lost",
             StorageFault::NoSpace => "no space is left for the database file or its log",
             StorageFault::DiskFailed => "the database file or its log could not be read or written",
             StorageFault::FileGone =>
                 "the database file or its log was removed, renamed or replaced while it was open",
+            StorageFault::LogCut =>
+                "the log of the database file was made shorter while it was open",
             StorageFault::BadRow =>
                 "a row of the database is not a text, a whole number and a text, or its key is out of order",
             StorageFault::Refused => "the database refused the row",

@@ -5,8 +5,9 @@ ghost use Rattle.ipam_keeper.specs.Rows.{Ascend};
 ghost use Rattle.ipam_keeper.specs.Keeping.{OnFailed, OnMemory, UnlessFailed, StaysBroken};
 ghost use Rattle.ipam_sqlite.specs.Refused.{IsRefused, AnswersRefused};
 
+use crate::copied::load_copy;
 use crate::fault::{StorageFault, Trouble};
-use crate::opened::{Ask, Opened};
+use crate::opened::{Ask, Ending, Opened};
 use crate::opening::Aim;
 use crate::place::{Place, Waiting, open_in_turn};
 use crate::tally::Tally;
@@ -16,24 +17,25 @@ use sqlite::{File, FileStore};
 use std::alloc::Global;
 use std::mem;
 
-/// Whether a file is open. It is let go by `fold` alone.
+/// Whether a file is open. It is let go by `end` alone.
 ///
 /// The proof of a function that calls one written for any store goes through the whole store of files, and takes
-/// half a minute. Only `FileKeeper::answer`, `Opened::fold` and `open_database` do.
+/// half a minute. Only `FileKeeper::answer`, `Opened::end`, `connect` and `load_copy` do.
 enum State {
     Closed,
     Open(Opened<FileStore<File>>),
+    /// The files may only be read, so each load reads a copy of them in memory.
+    Copied,
     /// Each call fails.
     Refused(StorageFault),
 }
 
 impl State {
-    /// Folds the log into the file, where it is open, and closes both. Where another file has its name
-    /// by now, the log is left as it is, for whoever finds the file.
-    fn fold(self) -> Result<(), Trouble> {
+    /// Closes the file and its log, where they are open.
+    fn end(self, ending: Ending) -> Result<(), Trouble> {
         match self {
-            State::Open(opened) => opened.fold(),
-            State::Closed | State::Refused(_) => Ok(()),
+            State::Open(opened) => opened.end(ending),
+            State::Closed | State::Copied | State::Refused(_) => Ok(()),
         }
     }
 }
@@ -42,9 +44,9 @@ impl State {
 /// rows, and puts each change on the disk at once, so that a settling has nothing to do.
 ///
 /// Where a call finds no memory to open the file, it answers `Memory`, and the next one tries again.
-/// Where the opening fails otherwise, or the file or its log is gone, that call and all later ones count
-/// a fault and answer `Failed`, and `why` tells the cause. A keeper that is dropped folds the log into
-/// the file, as far as that can be done.
+/// Where the opening fails otherwise, or the file or its log is gone or cut, that call and all later ones
+/// count a fault and answer `Failed`, and `why` tells the cause. A keeper that is dropped leaves the log as
+/// it is: the first change of a later one folds it into the file once it is long.
 pub struct FileKeeper {
     rt: HostRuntime,
     path: Option<Text>,
@@ -67,7 +69,7 @@ impl Drop for FileKeeper {
             turn,
             tally: Tally { faults: _, why: _ },
         } = self;
-        let _ = state.fold();
+        let _ = state.end(Ending::Leave);
         drop(turn);
     }
 }
@@ -93,7 +95,8 @@ impl FileKeeper {
     }
 
     /// A keeper for a caller that only looks: a file that is not there is read as no rows, and is not
-    /// made, and so is one whose making was stopped. There a put and a removal fail.
+    /// made, and so is one whose making was stopped. There a put and a removal fail. A file that may only be
+    /// read is read too, by a copy of it and its log in memory, which takes twice their size.
     pub fn reader(rt: &HostRuntime, path: &str) -> FileKeeper
         ensures { result.tally.faults ≡ 0 }
     {
@@ -116,14 +119,15 @@ impl FileKeeper {
         self.tally.why
     }
 
-    /// Folds the log into the file and closes both. The next call opens them again.
+    /// Folds the log into the file and closes both. The next call opens them again. After a change that failed
+    /// the log is left as it is, and this fails too.
     pub fn close(&mut self) -> Result<(), KeepFault>
         ensures fault { OnFailed result (self.new.tally.faults ≡ next_count self.old.tally.faults) }
         ensures no_fault { UnlessFailed result (self.new.tally.faults ≡ self.old.tally.faults) }
     {
         let answer = match &self.state {
             State::Refused(fault) => Err(Trouble::Fault(*fault)),
-            _ => self.turn(State::Closed),
+            _ => self.turn(State::Closed, Ending::Fold),
         };
         self.tally.counted(answer)
     }
@@ -134,7 +138,7 @@ impl FileKeeper {
         ensures tally { self.new.tally ≡ self.old.tally }
     {
         match &self.state {
-            State::Open(_) => return Ok(()),
+            State::Open(_) | State::Copied => return Ok(()),
             State::Refused(fault) => return Err(Trouble::Fault(*fault)),
             State::Closed => {}
         }
@@ -144,22 +148,25 @@ impl FileKeeper {
         let (opened, turn) = open_in_turn(&self.rt, path.as_str(), self.aim, self.waiting);
         self.turn = turn;
         match opened {
-            Ok(Some(opened)) => self.turn(State::Open(opened)),
+            Ok(Some(opened)) => self.turn(State::Open(opened), Ending::Leave),
             Ok(None) => Ok(()),
+            Err(Trouble::Fault(StorageFault::NoPermission)) if matches!(self.aim, Aim::Look) => {
+                self.turn(State::Copied, Ending::Leave)
+            }
             Err(Trouble::Memory) => Err(Trouble::Memory),
             Err(Trouble::Fault(fault)) => {
-                let _ = self.turn(State::Refused(fault));
+                let _ = self.turn(State::Refused(fault), Ending::Leave);
                 Err(Trouble::Fault(fault))
             }
         }
     }
 
-    /// Takes this state, and folds the one before.
-    fn turn(&mut self, state: State) -> Result<(), Trouble>
+    /// Takes this state, and ends the one before so.
+    fn turn(&mut self, state: State, ending: Ending) -> Result<(), Trouble>
         ensures state { self.new.state ≡ state }
         ensures tally { self.new.tally ≡ self.old.tally }
     {
-        mem::replace(&mut self.state, state).fold()
+        mem::replace(&mut self.state, state).end(ending)
     }
 
     /// What the file answers, once it is open. Where a reader found none, there are no rows, and no change is
@@ -172,12 +179,26 @@ impl FileKeeper {
         self.ready()?;
         match (&mut self.state, ask) {
             (State::Open(opened), _) => opened.answer(self.rt.alloc(), ask),
+            (State::Copied, Ask::Load) => self.copied(),
+            (State::Copied, Ask::Put(..) | Ask::Remove(_)) => Err(Trouble::Fault(
+                StorageFault::NoPermission,
+            )),
             (_, Ask::Load) => Ok(Vec::new(self.rt.alloc())),
             (_, Ask::Put(..) | Ask::Remove(_)) => Err(Trouble::Fault(StorageFault::NoFile)),
         }
     }
 
-    /// Makes a change. Where the files are gone, they are let go, and no later call does anything.
+    /// The rows of a copy of the files.
+    fn copied(&self) -> Result<Vec<Row>, Trouble>
+        ensures { IfOk result (λ loaded. Ascend loaded.items) }
+    {
+        match &self.path {
+            Some(path) => load_copy(&self.rt, path.as_str()),
+            None => Err(Trouble::Memory),
+        }
+    }
+
+    /// Makes a change. Where the files are gone or cut, they are let go, and no later call does anything.
     fn change(&mut self, change: Ask<'_>) -> Result<(), KeepFault>
         ensures refused { StaysBroken (IsRefused self.old.state) result (IsRefused self.new.state) }
         ensures fault { OnFailed result (self.new.tally.faults ≡ next_count self.old.tally.faults) }
@@ -188,8 +209,11 @@ impl FileKeeper {
             Ok(_) => Ok(()),
             Err(trouble) => Err(trouble),
         };
-        if let Err(Trouble::Fault(StorageFault::FileGone)) = answer {
-            let _ = self.turn(State::Refused(StorageFault::FileGone));
+        if let Err(
+            Trouble::Fault(fault @ (StorageFault::FileGone | StorageFault::LogCut)),
+        ) = answer
+        {
+            let _ = self.turn(State::Refused(fault), Ending::Leave);
         }
         self.tally.counted(answer)
     }
@@ -247,7 +271,7 @@ impl Keeper for FileKeeper {
     {
         let answer = match &self.state {
             State::Refused(fault) => Err(Trouble::Fault(*fault)),
-            State::Closed | State::Open(_) => Ok(()),
+            State::Closed | State::Open(_) | State::Copied => Ok(()),
         };
         self.tally.counted(answer)
     }
@@ -261,7 +285,7 @@ pub fn fold_log(rt: &HostRuntime, path: &str) -> Result<(), StorageFault> {
         Err(Trouble::Memory) => return Ok(()),
         Err(Trouble::Fault(fault)) => return Err(fault),
     }
-    match keeper.turn(State::Closed) {
+    match keeper.turn(State::Closed, Ending::Fold) {
         Err(Trouble::Fault(fault)) => Err(fault),
         _ => Ok(()),
     }

@@ -1,11 +1,13 @@
 //! A keeper of rows over one table of a SQLite file.
 #![tactic(auto)]
 
+mod copied;
 mod fault;
 mod header;
 mod keeper;
 mod lazy;
 mod loading;
+mod log_frames;
 mod names;
 mod opened;
 mod opening;

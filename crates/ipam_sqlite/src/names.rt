@@ -39,9 +39,10 @@ pub(crate) fn look(rt: &HostRuntime, path: &str) -> Result<Found, Trouble> {
         None => false,
     };
     match file {
+        Some((_, 0)) if has_pages => Err(Trouble::Fault(StorageFault::EmptyWithLog)),
         Some((id, length)) => Ok(Found {
             file: Some(id),
-            is_nothing: length == 0 && !has_pages,
+            is_nothing: length == 0,
         }),
         None if has_pages => Err(Trouble::Fault(StorageFault::LogAlone)),
         None => Ok(Found {
@@ -68,7 +69,12 @@ fn is_regular(found: &Metadata) -> bool {
 }
 
 /// The name of the log or the journal: it lies where a link leads, beside the file.
-fn beside(rt: &HostRuntime, path: &str, is_there: bool, ending: &str) -> Result<Text, Trouble> {
+pub(crate) fn beside(
+    rt: &HostRuntime,
+    path: &str,
+    is_there: bool,
+    ending: &str,
+) -> Result<Text, Trouble> {
     if !is_there {
         return Ok(Text::of(format!(in rt.alloc(); "{path}{ending}")?));
     }
@@ -122,6 +128,8 @@ pub(crate) struct Watch {
     file: FileId,
     log_path: Text,
     log: FileId,
+    /// How long the log was when it was last looked at. While it is open, what writes it never makes it shorter.
+    log_length: u64,
 }
 
 impl Watch {
@@ -133,7 +141,10 @@ impl Watch {
         found: Option<FileId>,
     ) -> Result<Watch, Trouble> {
         let log_path = beside(rt, path, true, "-wal")?;
-        let (Some(file), Some(log)) = (id_at(rt, path), id_at(rt, log_path.as_str())) else {
+        let (Some((file, _)), Some((log, log_length))) = (
+            found_at(rt, path),
+            found_at(rt, log_path.as_str()),
+        ) else {
             return Err(Trouble::Fault(StorageFault::FileGone));
         };
         match found {
@@ -144,29 +155,39 @@ impl Watch {
                 file,
                 log_path,
                 log,
+                log_length,
             }),
         }
     }
 
     /// Whether the name of the database file still leads to the file that was opened.
     pub(crate) fn has_file(&self) -> bool {
-        id_at(&self.rt, self.path.as_str()) == Some(self.file)
+        match found_at(&self.rt, self.path.as_str()) {
+            Some((file, _)) => file == self.file,
+            None => false,
+        }
     }
 
-    /// It is a fault that one of the names does not lead to the file that was opened.
-    pub(crate) fn check(&self) -> Result<(), Trouble> {
-        if self.has_file() && id_at(&self.rt, self.log_path.as_str()) == Some(self.log) {
-            Ok(())
-        } else {
-            Err(Trouble::Fault(StorageFault::FileGone))
+    /// It is a fault that one of the names does not lead to the file that was opened, and that the log is shorter
+    /// than at the last look.
+    pub(crate) fn check(&mut self) -> Result<(), Trouble> {
+        match found_at(&self.rt, self.log_path.as_str()) {
+            Some((log, length)) if log == self.log && self.has_file() => {
+                if length < self.log_length {
+                    return Err(Trouble::Fault(StorageFault::LogCut));
+                }
+                self.log_length = length;
+                Ok(())
+            }
+            _ => Err(Trouble::Fault(StorageFault::FileGone)),
         }
     }
 }
 
-/// Which file has this name, or a link there leads to.
-fn id_at(rt: &HostRuntime, path: &str) -> Option<FileId> {
+/// Which file has this name, or a link there leads to, and its length.
+fn found_at(rt: &HostRuntime, path: &str) -> Option<(FileId, u64)> {
     match fs::metadata(rt, path) {
-        Ok(found) => Some((found.dev(), found.ino())),
+        Ok(found) => Some(((found.dev(), found.ino()), found.len())),
         Err(_) => None,
     }
 }

@@ -1,5 +1,5 @@
 //! A database that is open, and its statements.
-ghost use Rattle.std.specs.Prelude.{IfOk};
+ghost use Rattle.std.specs.Prelude.{◌≡◌, Some, Err, IfOk, IfSome};
 ghost use Rattle.ipam_keeper.specs.Rows.{Ascend};
 
 use crate::fault::{StorageFault, Trouble};
@@ -39,6 +39,18 @@ pub(crate) struct Opened<S: Alter> {
     pub(crate) aim: Aim,
     /// Whether it took changes since the last settling.
     pub(crate) has_unsettled: bool,
+    /// Why a step failed, if one did. Then the disk may lack what the log seems to have, so that the log is left
+    /// for whoever opens the file next, and reads it from the disk.
+    pub(crate) failed: Option<StorageFault>,
+}
+
+/// What becomes of the log where a database is closed.
+#[derive(Clone, Copy)]
+pub(crate) enum Ending {
+    /// It is folded into the file.
+    Fold,
+    /// It stays as it is, for whoever opens the file next.
+    Leave,
 }
 
 impl<S: Alter + Drop> Drop for Opened<S> {
@@ -48,24 +60,29 @@ impl<S: Alter + Drop> Drop for Opened<S> {
             watch: _,
             aim: _,
             has_unsettled: _,
+            failed: _,
         } = self;
     }
 }
 
 impl Opened<FileStore<File>> {
-    /// Folds the log into the file and closes both. Where another file has its name by now, the log is left as
-    /// it is, for whoever finds the file.
-    pub(crate) fn fold(self) -> Result<(), Trouble> {
+    /// Closes the file and its log. Where a step failed, or another file has the name by now, the log is left as
+    /// it is also where it was to be folded, and this is told.
+    pub(crate) fn end(self, ending: Ending) -> Result<(), Trouble>
+        ensures failed { IfSome self.failed (λ fault. ending ≡ Ending.Fold → result ≡ Err (Trouble.Fault fault)) }
+    {
         let Opened {
             conn,
             watch,
             aim: _,
             has_unsettled: _,
+            failed,
         } = self;
-        if watch.has_file() {
-            fold(conn)
-        } else {
-            Err(Trouble::Fault(StorageFault::FileGone))
+        match (ending, failed) {
+            (Ending::Leave, _) => Ok(()),
+            (Ending::Fold, Some(fault)) => Err(Trouble::Fault(fault)),
+            (Ending::Fold, None) if watch.has_file() => fold(conn),
+            (Ending::Fold, None) => Err(Trouble::Fault(StorageFault::FileGone)),
         }
     }
 }
@@ -127,17 +144,34 @@ impl<S: Alter> Opened<S> {
     /// Runs a statement that puts something on the disk. Both names have to lead to the files before it, so
     /// that nothing is written into files that are gone, and after it, so that no such write is told as done.
     fn run_watched(&mut self, sql: &str, values: &[ValueRef<'_>]) -> Result<(), Trouble> {
-        self.watch.check()?;
+        self.look()?;
         self.run(sql, values)?;
-        self.watch.check()
+        self.look()
+    }
+
+    fn look(&mut self) -> Result<(), Trouble> {
+        let seen = self.watch.check();
+        self.noted(seen)
+    }
+
+    /// Keeps why a step failed.
+    fn noted(&mut self, answer: Result<(), Trouble>) -> Result<(), Trouble>
+        ensures answer { result ≡ answer }
+        ensures kept { (fault : StorageFault) → answer ≡ Err (Trouble.Fault fault) → self.new.failed ≡ Some fault }
+    {
+        if let Err(Trouble::Fault(fault)) = answer {
+            self.failed = Some(fault);
+        }
+        answer
     }
 
     /// Runs a statement. The connection compiles each once, and keeps what it compiled.
     fn run(&mut self, sql: &str, values: &[ValueRef<'_>]) -> Result<(), Trouble> {
-        match self.conn.execute(sql, values) {
+        let done = match self.conn.execute(sql, values) {
             Ok(_) => Ok(()),
             Err(error) => Err(self.weighed(Trouble::from(error))),
-        }
+        };
+        self.noted(done)
     }
 
     /// The trouble of a statement. Want of memory is told as such only where nothing has changed by it.

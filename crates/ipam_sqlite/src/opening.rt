@@ -1,9 +1,16 @@
 //! A database file is opened, or made with its table.
+ghost use Rattle.std.specs.Prelude.{IsTrue};
+
 use crate::fault::{StorageFault, Trouble};
 use crate::header::is_as_made;
+use crate::log_frames::check_log;
 use crate::names::{FileId, Found, Watch, look, make, why_closed};
 use crate::opened::Opened;
-use sqlite::{Alter, Connection, Error, ErrorCode, File, FileStore, Row};
+use sqlite::{Alter, Connection, Error, File, FileStore, Files, Options, Row, Unknown};
+use sqlite_disk::Disk;
+use sqlite_std_file::OpenError;
+use std::hash::{BuildHasher, RandomState};
+use std::io;
 
 const MAKE_TABLE: &str =
     "CREATE TABLE rows(key TEXT PRIMARY KEY, revision INTEGER NOT NULL, body TEXT NOT NULL)";
@@ -14,6 +21,15 @@ const SHAPE: &str = "createtablerows(keytextprimarykey,revisionintegernotnull,bo
 const FIND_TABLE: &str = "SELECT type, sql FROM sqlite_schema WHERE name = 'rows' COLLATE NOCASE";
 
 const LIST_OBJECTS: &str = "SELECT type FROM sqlite_schema";
+
+/// The bytes of a page, where the database was made here.
+const PAGE: usize = 4096;
+
+/// How many pages of a small file are kept in memory.
+const FEWEST_PAGES: usize = 64;
+
+/// From so many pages of the log on, the first change of a command folds it into the file.
+const MOST_FRAMES: usize = 128;
 
 /// What a keeper may do with its file, and when its changes are put on the disk.
 #[derive(Clone, Copy)]
@@ -43,7 +59,7 @@ pub(crate) fn open_database(
     // A log that has the table is folded into the file before any row is kept, and then the file has it. So a
     // file with rows is never taken for a new one, though it is copied without its log.
     for _ in 0..2 {
-        match begin(rt, path, aim, file, open_files(rt, path)?)? {
+        match begin(rt, path, aim, file, open_files(rt, path, aim)?)? {
             Begun::Empty => return Ok(None),
             Begun::Made(opened) => return Ok(Some(opened)),
             Begun::InLog(conn) => fold(conn)?,
@@ -52,13 +68,53 @@ pub(crate) fn open_database(
     Err(Trouble::Fault(StorageFault::NoTable))
 }
 
-fn open_files(rt: &HostRuntime, path: &str) -> Result<Connection<FileStore<File>>, Trouble> {
-    match Connection::open(rt, path) {
+/// Opens and locks the files, and looks at the log before it is taken.
+fn open_files(
+    rt: &HostRuntime,
+    path: &str,
+    aim: Aim,
+) -> Result<Connection<FileStore<File>>, Trouble> {
+    match sqlite_std_file::open(rt, path, Unknown) {
+        Ok(files) => connect(rt, files, aim),
+        Err(OpenError::OutOfMemory) => Err(Trouble::Memory),
+        Err(OpenError::Busy) => Err(Trouble::Fault(StorageFault::HeldByAnother)),
+        Err(OpenError::HotJournal) => Err(Trouble::Fault(StorageFault::Journal)),
+        Err(OpenError::Io(error)) if error.kind() == io::ErrorKind::OutOfMemory => {
+            Err(Trouble::Memory)
+        }
+        Err(OpenError::Io(_)) => Err(Trouble::Fault(why_closed(rt, path)?)),
+    }
+}
+
+/// Takes what the log has, and reads the database.
+pub(crate) fn connect<D: Disk + Drop>(
+    rt: &HostRuntime,
+    mut files: Files<D>,
+    aim: Aim,
+) -> Result<Connection<FileStore<D>>, Trouble>
+    requires log { IsTrue (D.Disk.is_usable files.log) }
+    requires db { IsTrue (D.Disk.is_usable files.db) }
+{
+    check_log(rt.alloc(), &mut files)?;
+    let options = options_of(aim, files.db.len()?, RandomState::new(rt)?.hash_one(&0u8));
+    match Connection::open_files_with(rt.alloc(), files, options, false) {
         Ok(conn) => Ok(conn),
-        Err(Error::SqliteFailure(ErrorCode::CannotOpen)) => Err(Trouble::Fault(why_closed(
-            rt, path,
-        )?)),
-        Err(error) => Err(Trouble::from(error)),
+        Err((error, _)) => Err(Trouble::from(error)),
+    }
+}
+
+/// A keeper that stays open sees its file grow. For the others each page of the cache is made before the first one is
+/// read, and each opening reads the whole log: so both are small.
+fn options_of(aim: Aim, length: usize, seed: u64) -> Options {
+    let usual = Options::new(seed);
+    match aim {
+        Aim::KeepAtSettle => usual,
+        Aim::Look | Aim::KeepAtOnce => Options {
+            cache_pages: (length / PAGE).clamp(FEWEST_PAGES, usual.cache_pages),
+            spill_pages: usual.spill_pages,
+            checkpoint_frames: MOST_FRAMES,
+            seed: usual.seed,
+        },
     }
 }
 
@@ -103,13 +159,14 @@ fn begin<S: Alter + Drop>(
                 watch,
                 aim,
                 has_unsettled: false,
+                failed: None,
             }))
         }
     }
 }
 
 /// How far the making of a database has come.
-enum Stage {
+pub(crate) enum Stage {
     /// There is no table yet.
     New,
     /// The table is in the log alone.
@@ -120,7 +177,7 @@ enum Stage {
 
 /// How far the making has come. It is a fault that the table has another shape, that something else has its
 /// name, and that there is none though the file had one once, has something else, or was not made here.
-fn stage_of<S: Alter>(
+pub(crate) fn stage_of<S: Alter>(
     rt: &HostRuntime,
     path: &str,
     conn: &mut Connection<S>,
