@@ -56,7 +56,10 @@ fn serve_file<R: Host + Files + Net<Listener = TcpListener, Stream = TcpStream>>
     tell_reading(rt, path);
     let (keeper, _place) = SqliteKeeper::open_served(rt, path, address, waiting);
     let ended = serve_stored(threads, rt.alloc(), keeper, opening, address, workers);
-    let _ = fold_log(rt, path);
+    // After a write that failed the disk may lack what the log seems to have.
+    if ended.database.is_none() && !matches!(ended.served, Served::KeeperFault) {
+        let _ = fold_log(rt, path);
+    }
     // Without memory for the line its cause is not told.
     if let Ok(line) = line_of(rt.alloc(), path, address, &ended) {
         let _ = tell_in_time(threads, rt.alloc(), Text::of(line));
