@@ -270,15 +270,166 @@ def killed(path):
     return got
 
 
-def folded(tally, folder):
-    """A file that is copied without its log, once the program has ended."""
-    path = os.path.join(folder, "folded.db")
-    for words, given in ((["apply"], ONE_MORE), (["get"], b"")):
-        tally.check("folded", run(path, words, given).returncode == DONE, words)
-        copy = path + ".copy"
+def unlogged(tally, folder):
+    """A file that is copied without its log is none whose making was stopped: it has its table."""
+    path = os.path.join(folder, "unlogged.db")
+    tally.check("unlogged", run(path, ["apply"], ONE_MORE).returncode == DONE, "apply failed")
+    tally.check("a file and its log", names_of(rows_of(path)) == ["r"], rows_of(path))
+    copy = path + ".copy"
+    shutil.copyfile(path, copy)
+    conn = sqlite3.connect(copy)
+    found = conn.execute("select name from sqlite_master where type = 'table'").fetchall()
+    conn.close()
+    tally.check("a copy without its log", found == [("rows",)], found)
+    backup = path + ".backup"
+    got = run(path, ["backup", backup])
+    os.unlink(backup + "-wal")
+    tally.check("a backup without its log", got.returncode == DONE and names_of(rows_of(backup)) == ["r"], got)
+
+
+def emptied(tally, folder):
+    """A file that lost all its bytes, beside the log that has its rows, is no new one."""
+    path = os.path.join(folder, "emptied.db")
+    killed(path)
+    before = contents(path + "-wal")
+    os.truncate(path, 0)
+    fault_over(tally, "an empty file and its log", path)
+    tally.check("an empty file and its log", os.path.getsize(path) == 0 and contents(path + "-wal") == before, "other bytes")
+    os.truncate(path + "-wal", 0)
+    tally.check("an empty file and an empty log", run(path, ["apply"], ONE_MORE).returncode == DONE, "refused")
+
+
+def contents(path):
+    with open(path, "rb") as file:
+        return file.read()
+
+
+def session(address, lines):
+    """The replies of a daemon to these lines, as far as it gives them."""
+    host, port = address.split(":")
+    with socket.create_connection((host, int(port)), timeout=60) as link, link.makefile("rwb") as file:
+        replies = []
+        for line in lines:
+            file.write(line + b"\n")
+            file.flush()
+            replies.append(file.readline())
+            if not replies[-1]:
+                break
+    return replies
+
+
+def listening(address):
+    """Waits until the daemon is there."""
+    host, port = address.split(":")
+    for _ in range(500):
+        with contextlib.suppress(OSError):
+            socket.create_connection((host, int(port))).close()
+            return
+        time.sleep(0.02)
+
+
+def reserve(number):
+    return b'{"request":{"reserve":{"cidrs":["10.0.0.0/24"],"name":"r%d"}}}' % (number % 100)
+
+
+def flips(tally, folder):
+    """One byte is changed in a log of 40 writes that is not folded: who opens the file is to find all of them but
+    the last, or is refused."""
+    path = os.path.join(folder, "flips.db")
+    make(path, [TABLE])
+    held, address = holder(path)
+    listening(address)
+    replies = session(address, [reserve(number) for number in range(40)])
+    let_go(held)
+    tally.check("flips", all(b"done" in reply for reply in replies) and len(names_of(rows_of(path))) == 40, "too few rows")
+    log = contents(path + "-wal")
+    pages = [at for at in range(32, len(log) - 24, 24 + 4096) if log[at + 8 : at + 16] == log[16:24]]
+    draw = random.Random(2)
+    counts = {"all": 0, "without the last": 0, "refused": 0, "fewer": 0}
+    drawn = [draw.randrange(pages[-1] + 24 + 4096) for _ in range(200)]
+    for at in [*range(32), *drawn]:
+        copy = os.path.join(folder, "flipped.db")
         shutil.copyfile(path, copy)
-        tally.check(f"a copy without its log after {words[0]}", names_of(rows_of(copy)) == ["r"], rows_of(copy))
-        os.unlink(copy)
+        with open(copy + "-wal", "wb") as file:
+            file.write(log[:at] + bytes([log[at] ^ 0xFF]) + log[at + 1 :])
+        got = run(copy, ["get"])
+        found = got.stdout.count(b'"name":"r')
+        if got.returncode == KEEPER and b"log" in got.stderr:
+            counts["refused"] += 1
+        elif got.returncode == DONE and found >= 39:
+            counts["all" if found == 40 else "without the last"] += 1
+        else:
+            counts["fewer"] += 1
+    tally.check("flips", counts["fewer"] == 0 and counts["refused"] > 150, counts)
+    print(f"one byte changed in a log of 40 writes: {counts}")
+
+
+def cuts(tally, folder):
+    """The log of a running daemon is made shorter: the daemon ends, and answers nothing more. A log that grows and is
+    folded by the daemon itself is no such one."""
+    path = os.path.join(folder, "cut.db")
+    make(path, [TABLE])
+    held, address = holder(path)
+    listening(address)
+    replies = session(address, [reserve(number) for number in range(1500)])
+    tally.check("a log of many folds", len(replies) == 1500 and all(b"done" in reply for reply in replies), replies[-1])
+    tally.check("a log of many folds", os.path.getsize(path + "-wal") < 6_000_000, os.path.getsize(path + "-wal"))
+    os.truncate(path + "-wal", os.path.getsize(path + "-wal") - 1)
+    replies = session(address, [reserve(0)])
+    tally.check("a log that was cut", replies == [b""], replies)
+    out, _ = held.communicate(timeout=30)
+    tally.check("a log that was cut", held.returncode == KEEPER and out == FAULT, (held.returncode, out))
+
+
+def unfolded(tally, folder):
+    """Once a sync failed, nobody folds the log: a command and a daemon leave the file as it was."""
+    for number in range(1, 40):
+        path = used(folder, f"unfolded{number}.db")
+        before = contents(path)
+        trace = ["strace", "-f", "-o", "/dev/null", "-e", "trace=fdatasync", "-e", f"inject=fdatasync:error=EIO:when={number}"]
+        got = run(path, ["apply"], TWO_MORE, before=trace)
+        if got.returncode == DONE:
+            break
+        tally.check(f"sync {number} failed", got.returncode == KEEPER and contents(path) == before, got)
+    tally.check("syncs that fail", 2 < number < 39, number)
+    path = used(folder, "unfolded.db")
+    held, address = holder(path)
+    listening(address)
+    session(address, [reserve(1)])
+    before = contents(path)
+    trace = ["strace", "-f", "-q", "-o", "/dev/null", "-e", "trace=fdatasync", "-e", "inject=fdatasync:error=EIO", "-p", str(held.pid)]
+    with subprocess.Popen(trace, stderr=subprocess.DEVNULL) as tracer:
+        time.sleep(1)
+        replies = session(address, [reserve(2)])
+        out, _ = held.communicate(timeout=30)
+        tracer.wait(30)
+    tally.check("a daemon's sync that failed", replies == [b""] and out == FAULT, (replies, out))
+    tally.check("a daemon's sync that failed", contents(path) == before, "the file was changed")
+    got = run(path, ["get"])
+    tally.check("a daemon's sync that failed", got.returncode == DONE and b'"r1"' in got.stdout, got)
+
+
+def full_disk(tally, folder):
+    """With 64 KB left on the disk a DEL goes well, wherever the log ends."""
+    if os.geteuid() != 0:
+        return
+    here = os.path.join(folder, "disk")
+    os.mkdir(here)
+    if subprocess.run(["mount", "-t", "tmpfs", "-o", "size=2m", "tmpfs", here], capture_output=True).returncode:
+        return
+    try:
+        path = os.path.join(here, "full.db")
+        make(path, [TABLE, POOL])
+        for count in range(12):
+            tally.check("a full disk", cni(path, "ADD").returncode == DONE, "ADD")
+            room = os.statvfs(here).f_bavail * os.statvfs(here).f_frsize
+            with open(os.path.join(here, "filler"), "wb") as file:
+                file.write(bytes(max(0, room - 65536)))
+            got = cni(path, "DEL")
+            tally.check(f"a full disk, DEL {count}", got.returncode == DONE, got)
+            os.unlink(os.path.join(here, "filler"))
+    finally:
+        subprocess.run(["umount", here], check=False)
 
 
 def dropped(tally, folder):
@@ -322,7 +473,7 @@ def rights(tally, folder):
         more = {"user": NOBODY, "group": NOBODY, "extra_groups": []}
     else:
         more = {}
-    for case, of_folder, of_file in [("a file to be read alone", 0o777, 0o444), ("a file without rights", 0o777, 0o000), ("a folder to be read alone", 0o555, 0o666)]:
+    for case, of_folder, of_file, may_read in [("a file to be read alone", 0o777, 0o444, True), ("a file without rights", 0o777, 0o000, False), ("a folder to be read alone", 0o555, 0o666, True)]:
         here = os.path.join(folder, case.replace(" ", "_"))
         os.mkdir(here)
         path = os.path.join(here, "a.db")
@@ -330,7 +481,11 @@ def rights(tally, folder):
         before = rows_of(path)
         os.chmod(path, of_file)
         os.chmod(here, of_folder)
-        fault_over(tally, case, path, **more)
+        fault_over(tally, case, path, WRITERS if may_read else READERS + WRITERS, **more)
+        for words in READERS if may_read else []:
+            got = run(path, words, **more)
+            right = got.returncode == DONE and not got.stderr and (words != ["get"] or got.stdout.startswith(b"pools 1 "))
+            tally.check(f"{case}, {words[0]}", right, got)
         os.chmod(here, 0o755)
         os.chmod(path, 0o644)
         tally.check(case, rows_of(path) == before, "other rows")
@@ -490,7 +645,12 @@ def main():
         shapes(tally, folder)
         places(tally, folder)
         names(tally, folder)
-        folded(tally, folder)
+        unlogged(tally, folder)
+        emptied(tally, folder)
+        flips(tally, folder)
+        cuts(tally, folder)
+        unfolded(tally, folder)
+        full_disk(tally, folder)
         dropped(tally, folder)
         modes(tally, folder)
         untouched(tally, folder)
