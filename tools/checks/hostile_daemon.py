@@ -377,11 +377,12 @@ def unread_errors(seen, program):
             held(daemon).close()
             count += 1
             time.sleep(0.05)
-    time.sleep(0.5)
-    try:
-        text += os.read(reads, 1 << 20)
-    except BlockingIOError:
-        pass
+    quiet = time.monotonic() + 1            # (the lines that waited follow)
+    while time.monotonic() < quiet:
+        try:
+            text, quiet = text + os.read(reads, 1 << 16), time.monotonic() + 1
+        except BlockingIOError:
+            time.sleep(0.05)
     lines, dropped = text.count(b"session closed"), sum(int(n) for n in re.findall(rb"([0-9]+) lines were dropped", text))
     seen.say("nobody reads standard error", f"{answered} of 3000 sessions were answered; {lines} lines and {dropped} that were "
              f"dropped, of {count + 1} sessions", answered == 3000 and dropped > 0 and lines + dropped == count + 1)

@@ -76,7 +76,7 @@ impl<S: Serves, C: Clock + Copy> Worker<S, C> {
     /// Serves a session over the connection to its end, which is told. Exactly where it ended since the keeper
     /// failed, it raises the alarm.
     fn serve<R: Wait + Log>(&mut self, rt: &R, stream: &Stream) -> SessionEnd
-        ensures served { IsAttended C S.keeps (arc_value self.old.desk.opening) self.old.desk.pass self.new.desk.pass stream result }
+        ensures served { IsAttended C S.keeps (arc_value self.old.desk.opening) self.old.desk.pass self.new.desk.pass stream.entry result }
         ensures counted { self.new.desk.sessions ≡ next_count self.old.desk.sessions }
         ensures heeded { IsHeeded result self.old.alarm.raises self.new.alarm.raises }
     {

@@ -89,6 +89,6 @@ fn copy_into<D: Disk>(alloc: Global, file: &File, copy: &mut D) -> Result<(), Tr
 }
 
 /// It has no contract, so that no proof counts its bytes.
-fn room(alloc: Global) -> Result<Vec<u8>, AllocError> {
+pub(crate) fn room(alloc: Global) -> Result<Vec<u8>, AllocError> {
     vec![in alloc; 0; PIECE]
 }

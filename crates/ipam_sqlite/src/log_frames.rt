@@ -5,8 +5,9 @@
 //! have the log's salt, which a fold changes. The last frame of a write commits it: there four bytes are not 0.
 //! The kit writes the first byte of the header, and that of the salt in the first frame of a write, last of all. So
 //! where one of them is shut, nothing behind it was ever answered.
-ghost use Rattle.std.specs.Prelude.{IsTrue};
+ghost use Rattle.std.specs.Prelude.{IsTrue, OnOk};
 
+use crate::copied::room;
 use crate::fault::{StorageFault, Trouble};
 use sqlite::Files;
 use sqlite_disk::Disk;
@@ -21,33 +22,59 @@ const FRAME_HEADER: usize = 24;
 /// How many writes one that a kill or a power failure has torn may seem to have: its own.
 const TORN: u32 = 1;
 
-/// It is a fault that more than one write stands whole behind the first one that is not, or that the header is
-/// damaged. Where the header is too short or shut, the database file has all rows by itself.
-pub(crate) fn check_log<D: Disk>(alloc: Global, files: &mut Files<D>) -> Result<(), Trouble>
+/// How many bytes of the log opening it takes. It is a fault that more than one write stands whole behind the first one
+/// that is not, or that the header is damaged. Where the header is too short or shut, the database file has all rows by
+/// itself.
+pub(crate) fn check_log<D: Disk>(alloc: Global, files: &mut Files<D>) -> Result<usize, Trouble>
     requires log { IsTrue (D.Disk.is_usable files.old.log) }
     requires db { IsTrue (D.Disk.is_usable files.old.db) }
     ensures log { IsTrue (D.Disk.is_usable files.new.log) }
     ensures db { IsTrue (D.Disk.is_usable files.new.db) }
 {
     if files.log.len()? < HEADER + FRAME_HEADER {
-        return Ok(());
+        return Ok(0);
     }
     let mut head = [0; HEADER];
     files.log.read_at(0, &mut head)?;
     if head[0] == 0 {
-        return Ok(());
+        return Ok(0);
     }
     if !is_signed(&head) {
         return Err(Trouble::Fault(StorageFault::LogDamaged));
     }
     let Some(size) = probe_page_size(files)? else {
-        return Ok(());
+        return Ok(0);
     };
     let taken = probe_frames(alloc, &mut files.log, size)?.len();
     match commits_from(&mut files.log, &head, size.bytes(), taken)? {
         commits if commits > TORN => Err(Trouble::Fault(StorageFault::LogDamaged)),
-        _ => Ok(()),
+        _ => Ok(place_of(size.bytes(), taken)),
     }
+}
+
+/// Writes so many bytes of the log again as they are, and puts them on the disk. After a sync that failed the system
+/// may count bytes as written that the disk has not got. No later sync writes those, and a crash would take back all
+/// that stands behind them.
+pub(crate) fn write_again<D: Disk>(alloc: Global, log: &mut D, length: usize) -> Result<(), Trouble>
+    requires { IsTrue (D.Disk.is_usable log.old) }
+    ensures { OnOk result (IsTrue (D.Disk.is_usable log.new)) }
+{
+    if length == 0 {
+        return Ok(());
+    }
+    let mut piece = room(alloc)?;
+    let mut at = 0;
+    'pieces: for _ in 0..usize::MAX {
+        let count = length.saturating_sub(at).min(piece.len());
+        if count == 0 {
+            break 'pieces;
+        }
+        log.read_at(at, &mut piece[..count])?;
+        log.write_at(at, &piece[..count])?;
+        at = at.saturating_add(count);
+    }
+    log.sync()?;
+    Ok(())
 }
 
 impl From<Error> for Trouble {

@@ -1,14 +1,15 @@
 //! A database file is opened, or made with its table.
-ghost use Rattle.std.specs.Prelude.{IsTrue};
+ghost use Rattle.std.specs.Prelude.{IsTrue, OnOk};
 
 use crate::fault::{StorageFault, Trouble};
 use crate::header::is_as_made;
-use crate::log_frames::check_log;
+use crate::log_frames::{check_log, write_again};
 use crate::names::{FileId, Found, Watch, look, make, why_closed};
 use crate::opened::Opened;
 use sqlite::{Alter, Connection, Error, File, FileStore, Files, Options, Row, Unknown};
 use sqlite_disk::Disk;
 use sqlite_std_file::OpenError;
+use std::alloc::Global;
 use std::hash::{BuildHasher, RandomState};
 use std::io;
 
@@ -95,11 +96,25 @@ pub(crate) fn connect<D: Disk + Drop>(
     requires log { IsTrue (D.Disk.is_usable files.log) }
     requires db { IsTrue (D.Disk.is_usable files.db) }
 {
-    check_log(rt.alloc(), &mut files)?;
+    ready_log(rt.alloc(), &mut files, aim)?;
     let options = options_of(aim, files.db.len()?, RandomState::new(rt)?.hash_one(&0u8));
     match Connection::open_files_with(rt.alloc(), files, options, false) {
         Ok(conn) => Ok(conn),
         Err((error, _)) => Err(Trouble::from(error)),
+    }
+}
+
+/// Looks at the log, and writes it again where rows are to be kept.
+fn ready_log<D: Disk>(alloc: Global, files: &mut Files<D>, aim: Aim) -> Result<(), Trouble>
+    requires log { IsTrue (D.Disk.is_usable files.old.log) }
+    requires db { IsTrue (D.Disk.is_usable files.old.db) }
+    ensures log { OnOk result (IsTrue (D.Disk.is_usable files.new.log)) }
+    ensures db { OnOk result (IsTrue (D.Disk.is_usable files.new.db)) }
+{
+    let taken = check_log(alloc, files)?;
+    match aim {
+        Aim::Look => Ok(()),
+        Aim::KeepAtOnce | Aim::KeepAtSettle => write_again(alloc, &mut files.log, taken),
     }
 }
 
