@@ -110,26 +110,6 @@ def try_at_once(program, folder):
         check(f"it ends at once at {address}", waited < 8, waited)
 
 
-def try_full_queue(program, folder):
-    """A listener that takes no connection, and whose queue is full."""
-    address = f"{folder}/full.sock"
-    with contextlib.ExitStack() as held:
-        listener = held.enter_context(socket.socket(socket.AF_UNIX))
-        listener.bind(address)
-        listener.listen(0)
-        for _ in range(8):
-            one = held.enter_context(socket.socket(socket.AF_UNIX))
-            one.setblocking(False)
-            if one.connect_ex(address):
-                break
-        told, waited = timed([program, "call", address], CONFIGURATION, variables())
-        is_same("a call where the queue is full", told, (1, NO_LINK))
-        check("how long it waits", 29 < waited < 33, waited)
-        told, waited = timed([program, "--daemon", address, "get"], b"", variables())
-        is_same("get where the queue is full", told, (10, b"link fault\n"))
-        check("how long get waits", 29 < waited < 33, waited)
-
-
 def try_lines(program, folder, rows):
     """A call sends the variables that are there, so an input fits that would not beside empty ones."""
     address = f"{folder}/lines.sock"
@@ -214,7 +194,6 @@ def main():
         try_lines(program, folder, rows)
         if not quick:
             try_nobody(program, folder, "x", 9.9, 12)
-            try_full_queue(program, folder)
             try_restart(program, folder, rows)
     print(f"{passed} passed, {failed} failed")
     return failed != 0

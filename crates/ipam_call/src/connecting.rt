@@ -3,8 +3,8 @@ ghost use Rattle.std.specs.Prelude.{◌≡◌, ◌+◌, min, ℕ, List, IfSome, 
 ghost use Rattle.ipam_io.specs.Counts.{Rose, next_count};
 ghost use Rattle.ipam_call.specs.Connecting.{HasConnected, HasFailed};
 
-use ipam_socket::{Address, DialError, Dialer, Limits, SocketLink, Stream, dial};
-use std::alloc::Global;
+use ipam_socket::{Address, DialError, Limits, SocketLink, Stream, dial};
+use std::net::{Net, TcpStream};
 use std::thread;
 use std::time::{Clock, Duration, Instant};
 
@@ -42,19 +42,17 @@ pub trait Connects<L> {
 #[derive(Drop)]
 pub struct Connector<R> {
     rt: R,
-    alloc: Global,
     limits: Limits,
     patience: Duration,
     connected: u64,
     faults: u64,
 }
 
-impl<R: Dialer> Connector<R> {
+impl<R: Net<Stream = TcpStream> + Clock> Connector<R> {
     /// What connects within these limits. Where nobody listens it tries again, for as long as its patience.
-    pub fn new(rt: R, alloc: Global, limits: Limits, patience: Duration) -> Connector<R> {
+    pub fn new(rt: R, limits: Limits, patience: Duration) -> Connector<R> {
         Connector {
             rt,
-            alloc,
             limits,
             patience,
             connected: 0,
@@ -71,7 +69,7 @@ impl<R: Dialer> Connector<R> {
                 .limits
                 .first
                 .saturating_sub(began.elapsed(&self.rt).ok()?);
-            let dialed = dial(self.rt, self.alloc, Address::of(address), left);
+            let dialed = dial(&self.rt, Address::of(address), left);
             let spent = began.elapsed(&self.rt).ok()?;
             match dialed {
                 Ok(stream) => return Some((stream, self.limits.first.saturating_sub(spent))),
@@ -96,7 +94,7 @@ fn next_pause(millis: u64) -> u64
     millis.saturating_mul(2).min(LONGEST_PAUSE_MILLIS)
 }
 
-impl<R: Dialer> Connects<SocketLink<R, Stream>> for Connector<R> {
+impl<R: Net<Stream = TcpStream> + Clock + Copy> Connects<SocketLink<R, Stream>> for Connector<R> {
     ghost reaches = { λ before _ _ after. HasConnected before after };
 
     ghost fails = { λ before _ after. HasFailed before after };

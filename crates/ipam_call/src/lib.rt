@@ -34,7 +34,7 @@ pub use end::{CallEnd, CallFault, DaemonReply};
 pub use fixed::{FixedError, fixed_text};
 pub use input::read_input;
 pub use ipam_io::InputFault;
-pub use ipam_socket::{Dialer, Limits};
+pub use ipam_socket::Limits;
 pub use laws::what_is_no_text_is_refused;
 pub use patience::{CONNECT_SECONDS, MOST_CONNECT_SECONDS, connect_seconds};
 pub use run::run_call;

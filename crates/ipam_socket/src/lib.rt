@@ -3,7 +3,6 @@
 #![tactic(auto)]
 
 mod address;
-mod connecting;
 mod dialing;
 mod file;
 mod gate;
@@ -16,8 +15,7 @@ mod stream;
 mod waits;
 
 pub use address::Address;
-pub use connecting::connect;
-pub use dialing::{DialError, Dialer, dial};
+pub use dialing::{DialError, dial};
 pub use gate::{Peer, PeerGate, StreamPeer};
 pub use ipam_io::Failed;
 pub use limits::Limits;

@@ -5,7 +5,7 @@ ghost use Rattle.ipam_call.specs.Values.{last_value};
 ghost use Rattle.ipam_words.specs.Daemon.{ask_of, daemon_asked};
 
 use crate::viewed::Viewed;
-use ipam_call::{Connector, Connects, Dialer, Limits, connect_seconds, daemon_named};
+use ipam_call::{Connector, Connects, Limits, connect_seconds, daemon_named};
 use ipam_io::{Link, Sink, StdSink, StdSource};
 use ipam_operator::{apply, get, release, routes, show, unreached};
 use ipam_text::Seq;
@@ -29,24 +29,15 @@ pub(crate) fn asked_of<'a>(words: &'a [String], entries: &'a [Seq<u8>]) -> Optio
 }
 
 /// What connects to a daemon, and tries to for as long as the environment says.
-pub(crate) fn connector_of<R: Dialer>(
-    rt: &HostRuntime,
-    threads: R,
-    entries: &[Seq<u8>],
-) -> Connector<R> {
+pub(crate) fn connector_of(rt: &HostRuntime, entries: &[Seq<u8>]) -> Connector<HostRuntime> {
     let patience = Duration::from_secs(u64::from(connect_seconds(entries)));
-    Connector::new(threads, rt.alloc(), Limits::of_call(), patience)
+    Connector::new(*rt, Limits::of_call(), patience)
 }
 
-/// Asks the daemon, and answers the exit status. `threads` is the runtime too: what makes threads.
-pub(crate) fn ask<R: Dialer>(
-    rt: &HostRuntime,
-    threads: R,
-    entries: &[Seq<u8>],
-    asked: &DaemonAsk<'_>,
-) -> u8 {
+/// Asks the daemon, and answers the exit status.
+pub(crate) fn ask(rt: &HostRuntime, entries: &[Seq<u8>], asked: &DaemonAsk<'_>) -> u8 {
     match &asked.command {
-        Some(command) => ask_at(rt, threads, entries, asked.address, command),
+        Some(command) => ask_at(rt, entries, asked.address, command),
         None => unasked(rt),
     }
 }
@@ -63,14 +54,8 @@ fn unasked(rt: &HostRuntime) -> u8 {
 }
 
 /// Asks the daemon at the address what the command asks.
-fn ask_at<R: Dialer>(
-    rt: &HostRuntime,
-    threads: R,
-    entries: &[Seq<u8>],
-    address: &str,
-    command: &Command<'_>,
-) -> u8 {
-    match connector_of(rt, threads, entries).connect(address) {
+fn ask_at(rt: &HostRuntime, entries: &[Seq<u8>], address: &str, command: &Command<'_>) -> u8 {
+    match connector_of(rt, entries).connect(address) {
         Some(link) => ask_over(rt, command, &mut Viewed::new(rt, link)),
         None => unreached_at(rt, address),
     }

@@ -16,7 +16,7 @@ mod upkeep;
 mod viewed;
 
 use asking::{ask, asked_of, connector_of};
-use ipam_call::{Dialer, call, call_variables, daemon_named, database_named};
+use ipam_call::{call, call_variables, daemon_named, database_named};
 use ipam_command::NO_MEMORY;
 use ipam_daemon::Host;
 use ipam_io::{StdSink, StdSource};
@@ -59,7 +59,7 @@ fn run<R: Host + Files + Net<Listener = TcpListener, Stream = TcpStream> + Sync>
     let all = all_words(rt)?;
     let entries = entries_of(rt)?;
     if let Some(folder) = plugin_folder(rt, all.as_ref())? {
-        return run_plugin(rt, threads, entries, folder.as_str());
+        return run_plugin(rt, entries, folder.as_str());
     }
     let words = words_given(rt.alloc(), all)?;
     match words.as_slice() {
@@ -85,7 +85,7 @@ fn run_asked<R: Host + Files + Net<Listener = TcpListener, Stream = TcpStream> +
         return run_upkeep(rt, &threads, words, entries, waiting, &asked);
     }
     if let Some(asked) = asked_of(words, entries) {
-        return Ok(ask(rt, threads, entries, &asked));
+        return Ok(ask(rt, entries, &asked));
     }
     run_command_of(rt, threads, words, entries, waiting)
 }
@@ -102,7 +102,7 @@ fn run_command_of<R: Host + Files + Net<Listener = TcpListener, Stream = TcpStre
         Some(Command::Serve(address, workers)) => serve_database(
             rt, threads, entries, waiting, address, workers,
         ),
-        Some(Command::Call(address)) => call_at(rt, threads, entries, address),
+        Some(Command::Call(address)) => call_at(rt, entries, address),
         Some(command) => {
             run_stored(
                 rt,
@@ -141,7 +141,7 @@ fn help_for(rt: &HostRuntime, words: &[String]) -> Result<Option<String>, AllocE
 }
 
 /// Asks the daemon, or the database where no daemon is named.
-fn run_upkeep<R: Dialer + Sync>(
+fn run_upkeep<R: Threads + Sync>(
     rt: &HostRuntime,
     threads: &R,
     words: &[String],
@@ -170,14 +170,13 @@ fn run_upkeep<R: Dialer + Sync>(
 }
 
 /// Makes a CNI call of the daemon, over standard input and output.
-pub(crate) fn call_at<R: Dialer>(
+pub(crate) fn call_at(
     rt: &HostRuntime,
-    threads: R,
     entries: &[Seq<u8>],
     address: &str,
 ) -> Result<u8, AllocError> {
     let variables = call_variables(rt.alloc(), entries)?;
-    let mut connector = connector_of(rt, threads, entries);
+    let mut connector = connector_of(rt, entries);
     let mut source = StdSource::new(rt.stdin());
     let mut sink = StdSink::new(io::writer(rt));
     Ok(call(

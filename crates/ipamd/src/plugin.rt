@@ -2,7 +2,7 @@
 //! which database it opens, or which daemon it calls.
 use crate::call_at;
 use crate::stored::{Use, keeper_of, tell_end};
-use ipam_call::{Database, Dialer, FixedError, call_variables, database_named, fixed_text};
+use ipam_call::{Database, FixedError, call_variables, database_named, fixed_text};
 use ipam_command::{CniEnd, CniFault, make_call};
 use ipam_io::{Sink, StdSink, StdSource};
 use ipam_keeper::Keeper;
@@ -85,11 +85,9 @@ fn named_by(text: &str) -> Named<'_> {
 }
 
 /// Makes one CNI call, of the daemon or over the database that the plugin's configuration names, and answers the
-/// exit status. The environment's `IPAM_DB` has precedence over the database. `threads` is the runtime too: what
-/// makes threads.
-pub(crate) fn run_plugin<R: Dialer>(
+/// exit status. The environment's `IPAM_DB` has precedence over the database.
+pub(crate) fn run_plugin(
     rt: &HostRuntime,
-    threads: R,
     entries: Vec<Seq<u8>>,
     folder: &str,
 ) -> Result<u8, AllocError> {
@@ -99,7 +97,7 @@ pub(crate) fn run_plugin<R: Dialer>(
         Err(_) => String::new(rt.alloc()),
     };
     match named_by(text.as_str()) {
-        Named::Daemon(address) => call_at(rt, threads, &entries, address),
+        Named::Daemon(address) => call_at(rt, &entries, address),
         Named::Database(file) => {
             let entries = with_database(rt, entries, file)?;
             let database = database_named(rt.alloc(), &entries)?;

@@ -5,7 +5,7 @@ use crate::asking::{connector_of, unreached_at};
 use crate::new_file::{NewFile, NotMade, unmake};
 use crate::telling::tell_why;
 use crate::viewed::Viewed;
-use ipam_call::{Connects, Dialer};
+use ipam_call::Connects;
 use ipam_io::{Link, StdSink};
 use ipam_operator::{End, Target, audit, back_up_asked, back_up_kept, tell};
 use ipam_sqlite::FileKeeper;
@@ -16,7 +16,7 @@ use std::io;
 use std::thread::Threads;
 
 /// Asks the daemon at the address, and answers the exit status. `threads` is the runtime too: what makes threads.
-pub(crate) fn ask_upkeep<R: Dialer + Sync>(
+pub(crate) fn ask_upkeep<R: Threads + Sync>(
     rt: &HostRuntime,
     threads: &R,
     entries: &[Seq<u8>],
@@ -25,7 +25,7 @@ pub(crate) fn ask_upkeep<R: Dialer + Sync>(
 ) -> u8
     requires { IsFit (of_upkeep upkeep.now) }
 {
-    match connector_of(rt, *threads, entries).connect(address) {
+    match connector_of(rt, entries).connect(address) {
         Some(link) => ask_over(rt, threads, upkeep, &mut Viewed::new(rt, link)),
         None => unreached_at(rt, address),
     }
