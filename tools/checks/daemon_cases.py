@@ -542,6 +542,8 @@ def told_opening(program, folder, _name, _steps):
 
 # ---- the socket file
 
+WRITE = b'{"request":{"pool":{"cidr":"10.9.0.0/24","name":"p","size":26}}}\n'
+
 
 class Listening:
     """A path at which daemons are to listen: `listen` starts one beside who does already, `leave` kills it, and `close` ends
@@ -549,6 +551,7 @@ class Listening:
 
     def __init__(self, program, folder, path):
         self.program, self.folder, self.path, self.daemon, self.count = program, folder, path, None, 0
+        self.database = None
 
     def listen(self):
         self.count += 1
@@ -556,6 +559,7 @@ class Listening:
         if self.daemon is None:
             with contextlib.suppress(ConnectionError, FileNotFoundError):
                 self.daemon = Daemon(self.program.path, database, address=str(self.path))
+                self.database = database
                 return "listens, "
         told = told_run(self.program, ["serve", str(self.path), "1"], b"", {"IPAM_DB": str(database)})
         return "refused, " if told == told_end(9, "listen fault\n") else f"{told}, "
@@ -567,12 +571,12 @@ class Listening:
         return ""
 
     def close(self):
-        """Lets it accept no more connections, which ends it."""
-        change_limit(self.daemon.process, resource.RLIMIT_NOFILE, 3)
-        until = time.monotonic() + PATIENCE
-        while self.daemon.process.poll() is None and time.monotonic() < until:
-            with contextlib.suppress(ConnectionError, FileNotFoundError):
-                connected(str(self.path)).close()
+        """Takes its database away and asks for a write, which ends it."""
+        self.database.rename(f"{self.database}.gone")
+        with contextlib.suppress(ConnectionError), connected(str(self.path)) as connection:
+            connection.sendall(WRITE)
+            connection.recv(1)
+        self.daemon.process.wait(PATIENCE)
         self.daemon = None
         return ""
 
