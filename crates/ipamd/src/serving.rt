@@ -6,7 +6,7 @@ use ipam_daemon::{Host, Opening, Served, new_opening, serve, tell_in_time, tell_
 use ipam_io::StdSink;
 use ipam_sqlite::{SqliteKeeper, StorageFault, Waiting, fold_log};
 use ipam_text::{Seq, Text};
-use sqlite::Alter;
+use sqlite::{Alter, File, FileStore};
 use std::alloc::{AllocError, Global};
 use std::fs::Files;
 use std::io;
@@ -55,7 +55,7 @@ fn serve_file<R: Host + Files + Net<Listener = TcpListener, Stream = TcpStream>>
 ) -> Served {
     tell_reading(rt, path);
     let (keeper, _place) = SqliteKeeper::open_served(rt, path, address, waiting);
-    let ended = serve_stored(threads, rt.alloc(), keeper, opening, address, workers);
+    let ended = serve_opened(threads, rt.alloc(), keeper, opening, address, workers);
     // After a write that failed the disk may lack what the log seems to have.
     if ended.database.is_none() && !matches!(ended.served, Served::KeeperFault) {
         let _ = fold_log(rt, path);
@@ -66,6 +66,19 @@ fn serve_file<R: Host + Files + Net<Listener = TcpListener, Stream = TcpStream>>
     }
     let Ended { served, .. } = ended;
     served
+}
+
+/// Serves what the keeper over a file has. It is one call, so that the search for a proof that a thread may be handed
+/// such a keeper has nothing else to look at.
+fn serve_opened<R: Host + Files + Net<Listener = TcpListener, Stream = TcpStream>>(
+    threads: R,
+    alloc: Global,
+    keeper: SqliteKeeper<FileStore<File>>,
+    opening: Opening,
+    address: &str,
+    workers: u8,
+) -> Ended {
+    serve_stored(threads, alloc, keeper, opening, address, workers)
 }
 
 /// How the daemon ended.
