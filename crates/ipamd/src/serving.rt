@@ -68,8 +68,8 @@ fn serve_file<R: Host + Files + Net<Listener = TcpListener, Stream = TcpStream>>
     served
 }
 
-/// Serves what the keeper over a file has. It is one call, so that the search for a proof that a thread may be handed
-/// such a keeper has nothing else to look at.
+/// Serves what the keeper over a file has. The call stands alone: that a thread may be handed such a keeper is shown by
+/// hand, and this is where.
 fn serve_opened<R: Host + Files + Net<Listener = TcpListener, Stream = TcpStream>>(
     threads: R,
     alloc: Global,
