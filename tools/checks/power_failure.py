@@ -273,7 +273,7 @@ def failed_sync(run, sign=1):
     clients = [Client(run, number, 0.3) for number in range(8)]
     load(run, clients, 0.7)
     run.command(["get"], None)
-    load(run, clients, PATIENCE, fail=sign * run.draw.randint(1, 8))
+    load(run, clients, PATIENCE, fail=sign * run.draw.randint(1, 4))
     load(run, clients, 0.3)
 
 
@@ -359,7 +359,7 @@ def drawn_places(events, count, draw, since=0, until=None):
     syncs = [place for place in every if place and events[place - 1].what == "S"]
     before = [place - 1 for place in syncs if place > since]
     replies = [place for place in every if place and events[place - 1].what == "w" and len(events[place - 1].data)]
-    kinds = [every, every, syncs, before, replies, table_writes(events, every)]
+    kinds = [every, every, syncs, before, replies] + [table_writes(events, every)] * (5 if since else 1)
     return sorted(draw.choice(draw.choice([kind for kind in kinds if kind])) for _ in range(count))
 
 
@@ -558,7 +558,7 @@ def main():
     words.add_argument("--again", nargs=3, metavar=("RECORD", "PLACE", "SEED"))
     words.add_argument("program", nargs="?", default=os.path.join(HERE, "../../release/ipam"))
     words = words.parse_args()
-    words.keep = words.keep or tempfile.mkdtemp(prefix="ipam-power-failed-")
+    words.keep = words.keep or os.path.join(tempfile.gettempdir(), f"ipam-power-failed-{os.getpid()}")
     program = os.path.abspath(words.program)
     with tempfile.TemporaryDirectory(prefix="ipam-power-") as root:
         root = os.path.realpath(root)
