@@ -300,7 +300,7 @@ def look_at(run, replies, place, files, folder):
                     f"SQLite says {sqlite_says(os.path.join(theirs, 'ipam.db'))[0]}")
     found = Rows(got.stdout.decode())
     replies.compare(place, found)
-    is_new = not any(step.place <= place and step.thing[0] == "pool" and step.what == "applied" for step in replies.steps)
+    is_new = not any(step.place <= place and step.what == "applied" for step in replies.steps)
     compare_sqlite(os.path.join(theirs, "ipam.db"), got.stdout.decode(), is_new)
     if found.pools:
         add_one(run, found, env, os.path.join(ours, "ipam.db"))
@@ -505,13 +505,14 @@ def self_test(words, program, library, root):
     events, is_right = read_record(run.record), True
     last = max(place for place, event in enumerate(events) if event.what == "W")
     kinds = [("nothing", events, None), ("each sync is ignored", events, "syncs"),
-             ("some synced writes are lost", events, "write"), ("replies come before their syncs", lose_replies(events), None)]
+             ("some synced writes are lost", events, "write"),
+             ("replies come before their syncs", lose_replies(events), None)]
     for what, given, lies in kinds:
-        tally = Tally(os.path.join(root, "seen"))
+        tally, places = Tally(os.path.join(root, "seen")), drawn_places(given, 60, random.Random(words.seed))
         with open(os.devnull, "w", encoding="ascii") as quiet:
             shown, sys.stdout = sys.stdout, quiet
             try:
-                try_places(run, given, replies_of(run, given), tally, what, drawn_places(given, 60, random.Random(words.seed)), lies)
+                try_places(run, given, replies_of(run, given), tally, what, places, lies)
             finally:
                 sys.stdout = shown
         failed = sum(tally.failed.values())
@@ -545,7 +546,8 @@ def try_again(words, program, library):
 
 def compiled(root):
     library = os.path.join(root, "power_record.so")
-    subprocess.run(["gcc", "-shared", "-fPIC", "-O2", "-o", library, os.path.join(HERE, "power_record.c"), "-ldl"], check=True)
+    source = os.path.join(HERE, "power_record.c")
+    subprocess.run(["gcc", "-shared", "-fPIC", "-O2", "-o", library, source, "-ldl"], check=True)
     return library
 
 
