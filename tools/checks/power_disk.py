@@ -202,7 +202,7 @@ class Disk:
         count = max(last - synced.gone, 0)
         if event.result:
             synced.doom(count)
-        elif self.lies == "write" and count and synced is not self and self.draw.random() < 0.01:
+        elif self.lies == "write" and count and synced is not self and self.draw.random() < 0.05:
             synced.settle(count, but=self.draw.randrange(count))
         elif self.lies != "syncs":
             synced.settle(count)
