@@ -19,6 +19,7 @@ import os
 import random
 import re
 import resource
+import shutil
 import signal
 import socket
 import stat
@@ -589,8 +590,13 @@ def web_page(seen, program):
             is_shut = is_closed(connection, 5)
         seen.say(f"{name} with a session's line as its body, TCP", f"closed: {is_shut}", is_shut)
     is_up = added(daemon, "one")
-    with open(daemon.log, "rb") as log:
-        logged = log.read().count(b"did not begin as a session does")
+    # (a thread of its own writes these lines)
+    for _ in range(50):
+        with open(daemon.log, "rb") as log:
+            logged = log.read().count(b"did not begin as a session does")
+        if logged >= len(heads):
+            break
+        time.sleep(0.1)
     kept = list(daemon.held().values())
     seen.say("what they left", f"{kept}, logged {logged} times", is_up and kept == ["one"] and logged == len(heads))
 
@@ -685,10 +691,10 @@ def strange_files(seen, program):
     seen.say("a table `rows` whose revisions are texts", f"status {out.returncode}", out.returncode != 0)
     daemon = Daemon(program).apply()
     lone = Daemon(program)
-    with open(daemon.env["IPAM_DB"], "rb") as old, open(lone.env["IPAM_DB"], "wb") as new:
-        new.write(old.read())
+    for end in ("", "-wal"):
+        shutil.copyfile(daemon.env["IPAM_DB"] + end, lone.env["IPAM_DB"] + end)
     out = subprocess.run([program, "get"], env=lone.env, stdout=subprocess.PIPE)
-    seen.say("the file copied without its log, after an apply", f"{out.stdout.decode().count('pools ')} rows of pools",
+    seen.say("the file copied with its log, after an apply", f"{out.stdout.decode().count('pools ')} rows of pools",
              out.returncode == 0 and b"pools " in out.stdout)
 
 
