@@ -290,8 +290,9 @@ class Scene:
         return self.command(rest, is_full=True)
 
     def step_why(self, _):
-        """What the last command told on standard error."""
-        return [re.sub("^ipam: (db: )?", "", line) for line in self.told.splitlines()]
+        """What the last command told on standard error. ADDRESS stands for that of a daemon, whose port is drawn."""
+        lines = [re.sub("^ipam: (db: )?", "", line) for line in self.told.splitlines()]
+        return [re.sub(r"127\.0\.0\.1:\d{4,}", "ADDRESS", line) for line in lines]
 
     def play(self, way, script):
         """Plays a script, of which a read or the first write may fail, as in `read 2`."""

@@ -3,8 +3,8 @@
 
     tools/checks/install.py [--quick] [PROGRAM]      else release/ipam
 
-A small checkout of one crate stands for the repository, with a program in it that writes its words; two tests use
-PROGRAM itself. With --quick fewer installers run side by side. Prints each test that fails, and then
+A small checkout of one crate stands for the repository. Its program writes its words, and as the plugin its
+configuration; two tests use PROGRAM itself. With --quick fewer installers run side by side. Prints each test that fails, and then
 `N passed, M failed`.
 """
 import os
@@ -16,7 +16,9 @@ import tempfile
 import threading
 
 TOP = pathlib.Path(__file__).resolve().parents[2]
-STUB = "#!/bin/sh\necho \"$@\"\n"
+STUB = """#!/bin/sh
+case $0 in */calico-ipam) cat "${0%/*}/calico-ipam.conf" ;; *) echo "$@" ;; esac
+"""
 BAD = os.fsdecode(b"no\xfftext")
 passed = failed = 0
 
@@ -165,7 +167,7 @@ def try_side_by_side(ipam, work, rounds):
     over.set()
     caller.join()
     is_same(f"{3 * rounds} installers side by side", [status for status in ended if status], [])
-    good = {(0, f"call /run/{name}/s\n".encode(), b"") for name in "abc"}
+    good = {(0, f"daemon /run/{name}/s\n".encode(), b"") for name in "abc"}
     is_same(f"{len(calls)} calls beside them", [one for one in calls if one not in good], [])
     check("nothing is left beside the files", not [name for name in os.listdir(bin) if name.startswith(".")], os.listdir(bin))
 

@@ -1,6 +1,6 @@
 //! The daemon over the database.
 use crate::causes::Noting;
-use crate::telling::{tell_no_path, tell_reading};
+use crate::telling::{line_of_fault, tell_no_path, tell_reading};
 use ipam_call::{Database, database_named};
 use ipam_daemon::{Host, Opening, Served, new_opening, serve, tell_in_time, tell_served};
 use ipam_io::StdSink;
@@ -61,7 +61,7 @@ fn serve_file<R: Host + Files + Net<Listener = TcpListener, Stream = TcpStream>>
         let _ = fold_log(rt, path);
     }
     // Without memory for the line its cause is not told.
-    if let Ok(line) = line_of(rt.alloc(), path, address, &ended) {
+    if let Ok(line) = line_of(rt, path, address, &ended) {
         let _ = tell_in_time(threads, rt.alloc(), Text::of(line));
     }
     let Ended { served, .. } = ended;
@@ -120,9 +120,15 @@ fn serve_stored<
 }
 
 /// The line on standard error of this end.
-fn line_of(alloc: Global, path: &str, address: &str, ended: &Ended) -> Result<String, AllocError> {
+fn line_of(
+    rt: &HostRuntime,
+    path: &str,
+    address: &str,
+    ended: &Ended,
+) -> Result<String, AllocError> {
+    let alloc = rt.alloc();
     match (&ended.served, ended.database, ended.listener) {
-        (Served::KeeperFault, Some(why), _) => format!(in alloc; "ipam: {path}: {why}"),
+        (Served::KeeperFault, Some(why), _) => line_of_fault(rt, path, why),
         (Served::KeeperFault, None, _) => format!(in alloc; "ipam: {path}: the database failed"),
         (Served::BrokenRows(number, key), _, _) => {
             let key = key.as_str();

@@ -1,6 +1,7 @@
 //! What is told on standard error: a line for the cause of what standard output tells shortly. Where it
 //! can't be written, nothing else changes.
 use ipam_sqlite::{StorageFault, daemon_at};
+use std::alloc::AllocError;
 use std::fs;
 use std::io::{self, IsTerminal};
 
@@ -77,20 +78,32 @@ pub(crate) fn tell_progress(rt: &HostRuntime, count: u64, each: u64, what: &str)
     }
 }
 
-/// Tells why the database failed, and where a daemon has it, how that is asked.
-pub(crate) fn tell_why(rt: &HostRuntime, path: &str, why: StorageFault) {
+/// The line of why the database failed, and where a daemon has it, of how that is asked.
+pub(crate) fn line_of_fault(
+    rt: &HostRuntime,
+    path: &str,
+    why: StorageFault,
+) -> Result<String, AllocError> {
     let daemon = match why {
         StorageFault::HeldByDaemon => daemon_at(rt, path),
         _ => None,
     };
-    let _ = match &daemon {
+    match &daemon {
         Some(address) => {
             let address = address.as_str();
-            eprintln!(rt;
+            format!(in rt.alloc();
                 "ipam: {path}: {why}: ask it by ipam --daemon {address} WORDS, or ipam call {address}"
             )
         }
-        None => eprintln!(rt; "ipam: {path}: {why}"),
+        None => format!(in rt.alloc(); "ipam: {path}: {why}"),
+    }
+}
+
+/// Tells why the database failed.
+pub(crate) fn tell_why(rt: &HostRuntime, path: &str, why: StorageFault) {
+    let _ = match line_of_fault(rt, path, why) {
+        Ok(line) => eprintln!(rt; "{line}"),
+        Err(AllocError) => eprintln!(rt; "ipam: {path}: {why}"),
     };
 }
 
