@@ -5,7 +5,7 @@
 
 It needs dpkg-deb and git here, and a system of Debian that can be booted: booted.py says what that takes. It looks
 that the unit runs after the installation, that the plugin gives addresses over the daemon, that the manual page has
-each help text and each cell of OPERATING's tables, that an upgrade beside calls keeps the addresses and a changed
+each help text and each cell of the documents' tables, that an upgrade beside calls keeps the addresses and a changed
 configuration, and that removing and purging leave the database, which a later installation goes on with. Prints how
 many calls failed beside the upgrade, each check that fails, and then `N passed, M failed`.
 """
@@ -104,8 +104,7 @@ def look_at_manual(user, program):
     made = manual()
     texts = [made.helped(program, "--help").partition("\n")[2]]
     texts += [made.helped(program, word, "--help") for word in made.words_of(program)]
-    operating = (TOP / "docs/OPERATING.md").read_text()
-    texts += [made.plain(cell) for _, *where in made.TABLES for row in made.rows_of(operating, *where)[1:] for cell in row]
+    texts += [made.plain(cell) for _, *where in made.TABLES for row in made.rows_of(*where)[1:] for cell in row]
     for text in texts:
         for line in text.splitlines():
             check("a line of the manual page", re.sub(r"\s+|\u2010", "", line) in seen, line)
