@@ -212,7 +212,13 @@ def try_without_turn(node):
     is_same("--no-wait takes no turn", ended[:3], (0, b"", ""))
     ended = node.run(["play"])
     check("play waits for no turn", ended[0] == 0 and ended[3] < AT_ONCE, ended)
-    held.close()
+    link = node.folder / "other.db"
+    link.symlink_to(node.rows)
+    timer = release_after(0.4, held)
+    ended = node.run(["get", "config"], IPAM_DB=str(link))
+    timer.join()
+    check("who names a link to the file has the same turn", ended[0] == 0 and 0.3 < ended[3], ended)
+    link.unlink()
     held = node.file()
     ended = node.run(["--no-wait", "get"])
     line = f"ipam: {node.rows}: another process has the database file open\n"
@@ -246,6 +252,10 @@ def try_daemon(node):
             is_same(f"{what} beside a daemon", ended[:2], wanted)
         check(f"{what} beside a daemon is told at once", ended[3] < AT_ONCE, ended[3])
         check(f"{what} beside a daemon names it", f"a daemon has the database file open: ask it by ipam --daemon {address} " in ended[2], ended[2])
+    link = node.folder / "link.db"
+    link.symlink_to(node.rows)
+    ended = node.run(["show"], IPAM_DB=str(link))
+    check("who names a link to the file sees the daemon at once", ended[0] == 5 and ended[3] < AT_ONCE and address in ended[2], ended)
     is_same("the daemon is asked", node.run(["--daemon", address, "get", "config"])[0], 0)
     configuration = node.folder / "bin/calico-ipam.conf"
     configuration.write_text(f"daemon {address}\n")

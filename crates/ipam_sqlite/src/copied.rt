@@ -7,6 +7,7 @@ use crate::fault::{StorageFault, Trouble};
 use crate::loading::load_rows;
 use crate::names::beside;
 use crate::opening::{Aim, Stage, connect, stage_of};
+use crate::place::has_daemon;
 use ipam_keeper::Row;
 use os::RangeLock;
 use sqlite::Files;
@@ -44,11 +45,23 @@ fn copy_files(rt: &HostRuntime, path: &str) -> Result<Files<Memory>, Trouble>
 {
     let file = File::open(rt, path)?;
     if os::try_lock_range(file.as_raw_fd(), RangeLock::Shared, LOCKS, LOCKS_LENGTH) != 0 {
-        return Err(Trouble::Fault(StorageFault::HeldByAnother));
+        return Err(unlocked(rt, path, io::Error::from_raw_os_error(os::errno())));
     }
     let db = copy_file(rt.alloc(), &file)?;
     let log = copy_log(rt, path)?;
     Ok(Files { log, db })
+}
+
+/// Why the files can't be locked: another process has them, or the system gives no such lock.
+fn unlocked(rt: &HostRuntime, path: &str, error: io::Error) -> Trouble {
+    if error.kind() != io::ErrorKind::WouldBlock {
+        return Trouble::from(error);
+    }
+    Trouble::Fault(if has_daemon(rt, path) {
+        StorageFault::HeldByDaemon
+    } else {
+        StorageFault::HeldByAnother
+    })
 }
 
 fn copy_log(rt: &HostRuntime, path: &str) -> Result<Memory, Trouble>

@@ -53,8 +53,8 @@ impl SqliteKeeper<FileStore<File>> {
 }
 
 impl SqliteKeeper<FileStore<File>> {
-    /// The same for a daemon at this address, in its turn. While the place is kept, others see that a daemon has
-    /// the file, and which.
+    /// A keeper over the file at this path for a daemon at this address. It is opened in its turn. While the place is
+    /// kept, others see that a daemon has the file, and at which address.
     pub fn open_served(
         rt: &HostRuntime,
         path: &str,

@@ -127,12 +127,14 @@ impl FileKeeper {
     {
         let answer = match &self.state {
             State::Refused(fault) => Err(Trouble::Fault(*fault)),
-            _ => self.turn(State::Closed, Ending::Fold),
+            _ => self.enter(State::Closed, Ending::Fold),
         };
+        self.turn = Place::none();
         self.tally.counted(answer)
     }
 
-    /// Opens the file, unless it is open.
+    /// Opens the file, unless it is open. Where it stays closed, the turn is given back, so that a later opening does
+    /// not wait for the turn of this very keeper.
     fn ready(&mut self) -> Result<(), Trouble>
         ensures refused { IsRefused self.old.state → AnswersRefused result self.new.state }
         ensures tally { self.new.tally ≡ self.old.tally }
@@ -146,23 +148,25 @@ impl FileKeeper {
             return Err(Trouble::Memory);
         };
         let (opened, turn) = open_in_turn(&self.rt, path.as_str(), self.aim, self.waiting);
-        self.turn = turn;
         match opened {
-            Ok(Some(opened)) => self.turn(State::Open(opened), Ending::Leave),
+            Ok(Some(opened)) => {
+                self.turn = turn;
+                self.enter(State::Open(opened), Ending::Leave)
+            }
             Ok(None) => Ok(()),
             Err(Trouble::Fault(StorageFault::NoPermission)) if matches!(self.aim, Aim::Look) => {
-                self.turn(State::Copied, Ending::Leave)
+                self.enter(State::Copied, Ending::Leave)
             }
             Err(Trouble::Memory) => Err(Trouble::Memory),
             Err(Trouble::Fault(fault)) => {
-                let _ = self.turn(State::Refused(fault), Ending::Leave);
+                let _ = self.enter(State::Refused(fault), Ending::Leave);
                 Err(Trouble::Fault(fault))
             }
         }
     }
 
     /// Takes this state, and ends the one before so.
-    fn turn(&mut self, state: State, ending: Ending) -> Result<(), Trouble>
+    fn enter(&mut self, state: State, ending: Ending) -> Result<(), Trouble>
         ensures state { self.new.state ≡ state }
         ensures tally { self.new.tally ≡ self.old.tally }
     {
@@ -213,7 +217,8 @@ impl FileKeeper {
             Trouble::Fault(fault @ (StorageFault::FileGone | StorageFault::LogCut)),
         ) = answer
         {
-            let _ = self.turn(State::Refused(fault), Ending::Leave);
+            let _ = self.enter(State::Refused(fault), Ending::Leave);
+            self.turn = Place::none();
         }
         self.tally.counted(answer)
     }
@@ -285,7 +290,7 @@ pub fn fold_log(rt: &HostRuntime, path: &str) -> Result<(), StorageFault> {
         Err(Trouble::Memory) => return Ok(()),
         Err(Trouble::Fault(fault)) => return Err(fault),
     }
-    match keeper.turn(State::Closed, Ending::Fold) {
+    match keeper.enter(State::Closed, Ending::Fold) {
         Err(Trouble::Fault(fault)) => Err(fault),
         _ => Ok(()),
     }

@@ -22,9 +22,10 @@ const FRAME_HEADER: usize = 24;
 /// How many writes one that a kill or a power failure has torn may seem to have: its own.
 const TORN: u32 = 1;
 
-/// How many bytes of the log opening it takes. It is a fault that more than one write stands whole behind the first one
-/// that is not, or that the header is damaged. Where the header is too short or shut, the database file has all rows by
-/// itself.
+/// How many bytes of the log opening it takes. It is a fault that more than one write seems to end at or behind the first
+/// frame that is not whole, or that the header is damaged. Where the header is too short or shut, the database file has
+/// all rows by itself: a fold shuts the header while the frames still stand, so that a header that damage shut looks the
+/// same. Nor is it seen that damage took the mark of its end from the last write but one.
 pub(crate) fn check_log<D: Disk>(alloc: Global, files: &mut Files<D>) -> Result<usize, Trouble>
     requires log { IsTrue (D.Disk.is_usable files.old.log) }
     requires db { IsTrue (D.Disk.is_usable files.old.db) }

@@ -67,7 +67,7 @@ impl<S: Alter + Drop> Drop for Opened<S> {
 
 impl Opened<FileStore<File>> {
     /// Closes the file and its log. Where a step failed, or another file has the name by now, the log is left as
-    /// it is also where it was to be folded, and this is told.
+    /// it is, also where it was to be folded, and the answer is that fault.
     pub(crate) fn end(self, ending: Ending) -> Result<(), Trouble>
         ensures failed { IfSome self.failed (λ fault. ending ≡ Ending.Fold → result ≡ Err (Trouble.Fault fault)) }
     {

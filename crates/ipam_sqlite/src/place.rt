@@ -2,6 +2,7 @@
 ghost use Rattle.std.specs.Prelude.{◌≡◌, is_some};
 
 use crate::fault::{StorageFault, Trouble};
+use crate::names::beside;
 use crate::opened::Opened;
 use crate::opening::{Aim, open_database};
 use crate::turn::{Pauses, Tries, wait_for};
@@ -16,7 +17,8 @@ use std::time::{Duration, Instant};
 /// What the name of the file has after that of the database whose lock is the turn.
 const TURN: &str = ".turn";
 
-/// The same of the file on which a daemon has a lock as long as it has the database. It has its address.
+/// What the name of the file has after that of the database on which a daemon has a lock for as long as it has the
+/// database. The daemon's address is in it.
 const DAEMON: &str = ".daemon";
 
 /// The mode of both, or less where the process's mask is stricter.
@@ -28,7 +30,7 @@ const TICK_MICROS: u64 = 100;
 /// How many ticks a turn is waited for: 60 seconds.
 const MOST_TICKS: u64 = 600_000;
 
-/// After how many ticks of waiting that is told: 2 seconds.
+/// After how many ticks of waiting a line on standard error says so: 2 seconds.
 const TICKS_TO_TELL: u64 = 20_000;
 
 /// How many ticks a daemon waits for its lock, which others have for no longer than a look: 1 second.
@@ -41,7 +43,7 @@ pub enum Waiting {
     Never,
     /// It waits, for 60 seconds at most.
     Silent,
-    /// It waits as long, and tells so on standard error after 2 seconds.
+    /// It waits as long, with a line on standard error after 2 seconds.
     Told,
 }
 
@@ -67,7 +69,7 @@ impl Place {
     /// The lock on the file with this ending, which is not taken yet.
     fn beside(rt: &HostRuntime, path: &str, ending: &str) -> Place {
         let mut place = Place::none();
-        if let Ok(name) = format!(in rt.alloc(); "{path}{ending}") {
+        if let Some(name) = lock_name(rt, path, ending) {
             place.file = lock_file(rt, name.as_str());
         }
         place
@@ -82,6 +84,12 @@ impl Place {
         }
         Place::beside(rt, path, TURN)
     }
+}
+
+/// The name of a lock file. It lies beside the database file itself, so that who names a link has the same locks.
+fn lock_name(rt: &HostRuntime, path: &str, ending: &str) -> Option<Text> {
+    let is_there = fs::metadata(rt, path).is_ok();
+    beside(rt, path, is_there, ending).ok()
 }
 
 /// Opens a file for its lock, and makes it where it is not there. A file that may only be read can be locked, too.
@@ -264,8 +272,8 @@ pub(crate) fn open_in_turn(
 }
 
 /// Whether a daemon has the database file: it has a lock on the file beside it.
-fn has_daemon(rt: &HostRuntime, path: &str) -> bool {
-    let Ok(name) = format!(in rt.alloc(); "{path}{DAEMON}") else {
+pub(crate) fn has_daemon(rt: &HostRuntime, path: &str) -> bool {
+    let Some(name) = lock_name(rt, path, DAEMON) else {
         return false;
     };
     match File::open(rt, name.as_str()) {
@@ -291,7 +299,7 @@ pub(crate) fn hold(rt: &HostRuntime, path: &str, address: &str) -> Place {
 
 /// The address of the daemon that has the database file, where it wrote one.
 pub fn daemon_at(rt: &HostRuntime, path: &str) -> Option<Text> {
-    let name = format!(in rt.alloc(); "{path}{DAEMON}").ok()?;
+    let name = lock_name(rt, path, DAEMON)?;
     match fs::read_to_string(rt, name.as_str()) {
         Ok(address) if !address.is_empty() => Some(Text::of(address)),
         _ => None,

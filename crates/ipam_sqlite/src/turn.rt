@@ -1,5 +1,5 @@
 //! Something is tried, with pauses in between, until it is done or no time is left.
-ghost use Rattle.std.specs.Prelude.{◌≡◌, ◌+◌, ◌-◌, ◌≤◌, ℕ, Bool, false};
+ghost use Rattle.std.specs.Prelude.{◌≡◌, ◌+◌, ◌-◌, ◌*◌, ◌≤◌, min, ℕ, Bool, false};
 
 /// The longest pause, in ticks.
 const LONGEST_PAUSE: u64 = 50;
@@ -56,7 +56,8 @@ pub fn wait_for<T: Tries, P: Pauses>(tries: &mut T, pauses: &mut P) -> bool
 /// How long the next pause is, after one of so many ticks.
 fn after(pause: u64) -> u64
     requires { 1 ≤ pause }
-    ensures { 1 ≤ result }
+    ensures positive { 1 ≤ result }
+    ensures doubled { result ≡ min (pause * 2) 50 }
 {
     if pause < LONGEST_PAUSE / 2 {
         pause * 2
