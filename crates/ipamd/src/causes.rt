@@ -46,7 +46,7 @@ impl Cause {
         *last
     }
 
-    /// Leaves a cause here. Nobody else leaves one, and it is looked at once nobody does any more.
+    /// Leaves a cause here. Where another thread looks at the cause in this very moment, it is not left.
     fn leave(&self, cause: Option<StorageFault>) {
         if let Some(mut last) = self.last.try_lock() {
             *last = cause;

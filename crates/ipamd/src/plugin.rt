@@ -69,12 +69,16 @@ enum Named<'a> {
     Nothing,
 }
 
-/// What the first line of the configuration names.
+/// What the first line of the configuration names. A line that `install` would not have written names nothing: a blank
+/// or a carriage return at its end would be taken for a part of the name.
 fn named_by(text: &str) -> Named<'_> {
     let line = match text.split_once('\n') {
         Some((line, _)) => line,
         None => text,
     };
+    if line.ends_with(' ') || has_control(line) {
+        return Named::Nothing;
+    }
     if let Some(address) = line.strip_prefix("daemon ") {
         return Named::Daemon(address);
     }
@@ -84,6 +88,16 @@ fn named_by(text: &str) -> Named<'_> {
     }
 }
 
+/// Whether the line has a control character of ASCII.
+fn has_control(line: &str) -> bool {
+    for byte in line.bytes() {
+        if byte.is_ascii_control() {
+            return true;
+        }
+    }
+    false
+}
+
 /// Makes one CNI call, of the daemon or over the database that the plugin's configuration names, and answers the
 /// exit status. The environment's `IPAM_DB` has precedence over the database.
 pub(crate) fn run_plugin(
@@ -91,11 +105,7 @@ pub(crate) fn run_plugin(
     entries: Vec<Seq<u8>>,
     folder: &str,
 ) -> Result<u8, AllocError> {
-    let path = format!(in rt.alloc(); "{folder}{NAME}.conf")?;
-    let text = match fs::read_to_string(rt, path.as_str()) {
-        Ok(text) => text,
-        Err(_) => String::new(rt.alloc()),
-    };
+    let text = configuration(rt, folder)?;
     match named_by(text.as_str()) {
         Named::Daemon(address) => call_at(rt, &entries, address),
         Named::Database(file) => {
@@ -104,11 +114,27 @@ pub(crate) fn run_plugin(
             call_over(rt, &entries, &database)
         }
         Named::Nothing => {
-            let path = path.as_str();
             let _ = eprintln!(rt;
-                "ipam: {path} names no database and no daemon: run ipam install again"
+                "ipam: {folder}{NAME}.conf names no database and no daemon: run ipam install again"
             );
-            call_over(rt, &entries, &no_database(rt)?)
+            call_of_none(rt, &entries)
+        }
+    }
+}
+
+/// The text of the configuration in the folder, or none, with a line on standard error where it can't be read. A folder
+/// that is not known has none.
+fn configuration(rt: &HostRuntime, folder: &str) -> Result<String, AllocError> {
+    let path = format!(in rt.alloc(); "{folder}{NAME}.conf")?;
+    let path = path.as_str();
+    if folder.is_empty() {
+        return Ok(String::new(rt.alloc()));
+    }
+    match fs::read_to_string(rt, path) {
+        Ok(text) => Ok(text),
+        Err(error) => {
+            let _ = eprintln!(rt; "ipam: {path}: {error}");
+            Ok(String::new(rt.alloc()))
         }
     }
 }
@@ -133,6 +159,13 @@ fn with_database(
 /// A path at which no file can be, so that a call replies with its error for a database that fails.
 fn no_database(rt: &HostRuntime) -> Result<Database, AllocError> {
     Ok(Database::File(Text::copied(rt.alloc(), "/dev/null/none")?))
+}
+
+/// Replies to a call of which no database is known with the error for a database that fails.
+fn call_of_none(rt: &HostRuntime, entries: &[Seq<u8>]) -> Result<u8, AllocError> {
+    let variables = call_variables(rt.alloc(), entries)?;
+    let mut keeper = keeper_of(rt, &no_database(rt)?, Use::Keep);
+    Ok(call_kept(rt, &variables, &mut keeper))
 }
 
 /// Makes the call over the database.
