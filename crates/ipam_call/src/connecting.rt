@@ -60,7 +60,8 @@ impl<R: Net<Stream = TcpStream> + Clock> Connector<R> {
         }
     }
 
-    /// The connection that the tries come to, with the time that is left of the limit for the first line.
+    /// The connection that the tries come to, with the time that is left of the limit for the first line. One that
+    /// leaves no time is closed again, before anything is sent.
     fn reach(&self, address: &str) -> Option<(Stream, Duration)> {
         let began = Instant::now(&self.rt).ok()?;
         let mut pause = FIRST_PAUSE_MILLIS;
@@ -72,7 +73,10 @@ impl<R: Net<Stream = TcpStream> + Clock> Connector<R> {
             let dialed = dial(&self.rt, Address::of(address), left);
             let spent = began.elapsed(&self.rt).ok()?;
             match dialed {
-                Ok(stream) => return Some((stream, self.limits.first.saturating_sub(spent))),
+                Ok(stream) if spent < self.limits.first => {
+                    return Some((stream, self.limits.first.saturating_sub(spent)));
+                }
+                Ok(_) => return None,
                 Err(DialError::Refused) => {}
                 Err(DialError::Failed) => return None,
             }

@@ -13,6 +13,8 @@ pub enum Passing {
     Buffers,
     /// The system has no memory.
     Memory,
+    /// No space, or none that this user may take, is left for a socket file.
+    Space,
     /// The peer gave the connection up, or a rule of the network refused it, before it was accepted.
     Aborted,
     /// The network is down, or the way to the peer.
@@ -21,7 +23,7 @@ pub enum Passing {
     FileGone,
 }
 
-/// Linux's numbers, as accept(2) lists them.
+/// Linux's numbers, as accept(2) and bind(2) list them.
 const NOT_PERMITTED: i32 = 1;
 
 const NO_MEMORY: i32 = 12;
@@ -29,6 +31,8 @@ const NO_MEMORY: i32 = 12;
 const SYSTEM_FILES: i32 = 23;
 
 const PROCESS_FILES: i32 = 24;
+
+const NO_SPACE: i32 = 28;
 
 const NO_NETWORK: i32 = 64;
 
@@ -53,6 +57,8 @@ const TIMED_OUT: i32 = 110;
 const HOST_DOWN: i32 = 112;
 
 const HOST_UNREACHABLE: i32 = 113;
+
+const OVER_QUOTA: i32 = 122;
 
 impl Passing {
     /// The cause of an error of accepting, where it passes. None where it doesn't.
@@ -79,6 +85,7 @@ impl Passing {
             SYSTEM_FILES => Some(Passing::SystemFiles),
             NO_BUFFERS => Some(Passing::Buffers),
             NO_MEMORY => Some(Passing::Memory),
+            NO_SPACE | OVER_QUOTA => Some(Passing::Space),
             _ => None,
         }
     }
@@ -91,6 +98,7 @@ impl fmt::Display for Passing {
             Passing::SystemFiles => "the system has as many files open as it can",
             Passing::Buffers => "the system has no buffers for sockets",
             Passing::Memory => "the system has no memory",
+            Passing::Space => "no space is left for the socket file",
             Passing::Aborted => "a connection was given up before it was accepted",
             Passing::Network => "the network is down",
             Passing::FileGone => "the socket file was gone, and a new one was made",
