@@ -2,7 +2,7 @@
 //!
 //! Each worker is a thread with a pass of its own of the shared cluster, and serves one connection
 //! after another. The thread that accepts connections hands them over through a channel, and looks at the alarm of
-//! the workers between two tries. A thread more writes what is told on standard error.
+//! the workers between two tries. One more thread writes lines on standard error.
 #![tactic(auto)]
 
 mod alarm;

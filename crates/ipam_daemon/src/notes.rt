@@ -1,4 +1,4 @@
-//! What is told on standard error while sessions are served. A thread of its own writes it, so that nobody else waits
+//! Lines on standard error about sessions and connections. A thread of its own writes them, so that nobody else waits
 //! where standard error takes no more.
 ghost use Rattle.std.specs.Prelude.{◌≡◌, IfOk};
 
@@ -16,7 +16,7 @@ use std::time::Clock;
 /// How many notes may wait to be written. Further ones are dropped.
 const MOST_NOTES: usize = 256;
 
-/// What is told.
+/// What a line is about.
 #[derive(Clone, Copy)]
 pub enum Note {
     /// A session ended so.
@@ -29,9 +29,9 @@ pub enum Note {
     Workers(usize, u8),
 }
 
-/// Whom a note is told. Nothing is said of whether it is written.
+/// Takes notes. Whether they are written is not promised.
 pub trait Tells {
-    /// Tells the note, without waiting for anybody.
+    /// Takes the note, and waits for nobody.
     fn tell<R: Wait + Log>(&mut self, rt: &R, note: Note);
 }
 

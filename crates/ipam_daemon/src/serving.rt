@@ -58,8 +58,9 @@ pub fn serve<
     (served, keeper, listener.why())
 }
 
-/// The same over this listener and within these limits. It ends with a fault of listening exactly where the listener failed, and by the keeper after the rows were opened exactly where the watch found the
-/// alarm raised, which is to be the watch of this alarm.
+/// Serves over this listener and within these limits. It ends with a fault of listening exactly where the listener
+/// failed. After the rows were opened it ends by the keeper exactly where the watch, which is to be that of this alarm,
+/// found the alarm raised.
 #[tactic(auto, using(crate::proofs::Ended::served_out, crate::proofs::Ended::unopened))]
 pub fn serve_by<R: Host, D: Keeper + Send + Drop + 'static, L: Listens<Stream>, A: Watches>(
     rt: R,

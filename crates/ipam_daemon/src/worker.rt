@@ -73,7 +73,7 @@ impl<S: Serves, C: Clock + Copy> Worker<S, C> {
         }
     }
 
-    /// Serves a session over the connection to its end, which is told. Exactly where it ended since the keeper
+    /// Serves a session over the connection to its end, and notes the end. Exactly where it ended since the keeper
     /// failed, it raises the alarm.
     fn serve<R: Wait + Log>(&mut self, rt: &R, stream: &Stream) -> SessionEnd
         ensures served { IsAttended C S.keeps (arc_value self.old.desk.opening) self.old.desk.pass self.new.desk.pass stream.entry result }
@@ -103,7 +103,7 @@ impl<S: Serves, C: Clock + Copy> Attends<Stream> for Worker<S, C> {
 
     ghost serves = { λ before stream after. IsServedLent C S.keeps (arc_value before.desk.opening) before.desk.pass after.desk.pass stream };
 
-    /// Serves a session over the connection to its end, which is told.
+    /// Serves a session over the connection to its end, and notes the end.
     fn attend<R: Wait + Log + Clock>(&mut self, rt: &R, stream: Stream) {
         self.serve(rt, &stream);
     }
