@@ -7,7 +7,8 @@ On a small disk in memory, and on a small ext4 where `mkfs.ext4` is there, a dae
 bytes are left. Eight clients add and delete until the daemon ends or each of them is refused; it is started again as
 the unit does it, and asked what needs no write. The same is done by one-shot calls. Then space is freed. Each answered
 ADD has to be in the rows, none twice, each answered DEL gone, the rows readable all the time, and calls answered again
-at the end. Each line ends with `ok` or `FAILED`, and the last one is `N passed, M failed`. It needs root and Python.
+at the end. At last the folder of the socket file is full while that file is removed. Each line ends with `ok` or
+`FAILED`, and the last one is `N passed, M failed`. It needs root and Python.
 """
 
 import contextlib
@@ -204,6 +205,42 @@ def daemon_rows(daemon):
     return daemon.held()
 
 
+def is_answered(program, address):
+    return subprocess.run([program, "--daemon", address, "get"], stdout=subprocess.PIPE, stderr=subprocess.PIPE,
+                          env={**os.environ, "IPAM_CONNECT_SECONDS": "0"}).stdout.startswith(b"pools ")
+
+
+def full_socket_folder(seen, program):
+    """The socket file is removed while its folder has no room for a name: the daemon waits, and makes the file anew."""
+    with tempfile.TemporaryDirectory(prefix="ipam-full-") as root:
+        folder, address = os.path.join(root, "run"), os.path.join(root, "run/s")
+        os.mkdir(folder)
+        subprocess.run(["mount", "-t", "tmpfs", "-o", "size=64k,nr_inodes=10", "tmpfs", folder], check=True)
+        env = {**os.environ, "IPAM_DB": os.path.join(root, "ipam.db")}
+        pool = {"kind": "IPPool", "metadata": {"name": "pods"}, "spec": {"cidr": "10.0.0.0/24"}}
+        subprocess.run([program, "apply"], input=json.dumps(pool).encode(), env=env, stdout=subprocess.PIPE, check=True)
+        daemon = subprocess.Popen([program, "serve", address, "2"], env=env, stdout=subprocess.PIPE, stderr=subprocess.PIPE)
+        try:
+            time.sleep(0.5)
+            os.unlink(address)
+            names = [os.path.join(folder, f"file{number}") for number in range(20)]
+            with contextlib.suppress(OSError):
+                for name in names:
+                    open(name, "wb").close()
+            time.sleep(3)
+            seen.say("no room for the socket file", f"the daemon ended with {daemon.poll()}", daemon.poll() is None)
+            for name in names:
+                with contextlib.suppress(OSError):
+                    os.unlink(name)
+            time.sleep(2.5)
+            told = is_answered(program, address)
+            seen.say("room for the socket file again", f"the daemon answers there: {told}", told)
+        finally:
+            daemon.kill()
+            daemon.communicate()
+            subprocess.run(["umount", "-l", folder], check=True)
+
+
 def main():
     program = os.path.abspath(sys.argv[1]) if len(sys.argv) > 1 else os.path.join(HERE, "../../release/ipam")
     seen = Seen()
@@ -215,6 +252,7 @@ def main():
                     part(seen, program, kind, room)
                 except (OSError, AttributeError, subprocess.SubprocessError, ValueError, KeyError, TypeError) as failed:
                     seen.say(f"{kind}, {room} bytes left, {part.__name__}", f"it broke off: {failed!r}", False)
+    full_socket_folder(seen, program)
     print(f"{seen.passed} passed, {seen.failed} failed")
     sys.exit(1 if seen.failed else 0)
 
