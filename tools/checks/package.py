@@ -132,6 +132,7 @@ def upgrade(user, later):
     user.does("an upgrade", f"sleep 0.5; dpkg -i {later}; sleep 0.5; touch /tmp/stop")
     failed = user.does("calls beside it", "while [ -d /proc/$(cat /tmp/load.pid) ]; do sleep 0.2; done; cat /tmp/failed")
     print(f"{failed.strip()} calls beside the upgrade failed")
+    check("each call beside the upgrade is answered", failed.startswith("0 of "), failed)
     check("the daemon is another one", user.is_up() and user.shell("systemctl show -p MainPID ipam")[1] != before)
     check("the address stays", "c1" in user.handles(), user.handles())
     check("a configuration that was changed stays", "# mine" in user.shell("cat /etc/ipam/calico-ipam.conf")[1])
