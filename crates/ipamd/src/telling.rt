@@ -1,4 +1,4 @@
-//! What is told on standard error: a line for the cause of what standard output tells shortly. Where it
+//! Lines on standard error: each has the cause of what standard output says shortly. Where one
 //! can't be written, nothing else changes.
 use ipam_sqlite::{StorageFault, daemon_at};
 use std::alloc::AllocError;
@@ -14,38 +14,42 @@ pub(crate) const EACH_REQUESTS: u64 = 100;
 /// How many rows of a backup there are from one line to the next.
 pub(crate) const EACH_ROWS: u64 = 10_000;
 
-/// The words that begin a command, or stand before it.
-const FIRST_WORDS: &str =
-    "--no-wait cni play gen apply get show routes release unreserve audit backup serve call --help --version";
-
-/// Tells which of the words is wrong: the first, or those that follow one that begins a command.
+/// Says on standard error which of the words is wrong: the first, or those that have to follow one that begins a command.
 pub(crate) fn tell_unknown(rt: &HostRuntime, words: &[String]) {
-    let [first, rest @ ..] = words else {
+    let [first, ..] = words else {
         return;
     };
     let first = first.as_str();
-    if first == "\u{fffd}" {
-        let _ = eprintln!(rt; "ipam: a word is no UTF-8; ipam --help tells the words");
-    } else if begins_command(first) {
-        tell_rest(rt, first, rest);
-    } else {
-        let _ = eprintln!(rt; "ipam: unknown word {first:?}; ipam --help tells the words");
-    }
-}
-
-/// Tells what is wrong with the words that follow the one that begins a command.
-fn tell_rest(rt: &HostRuntime, first: &str, rest: &[String]) {
-    let _ = match rest {
-        [] => eprintln!(rt; "ipam: {first} wants more words; ipam --help tells the words"),
-        [word] => {
-            eprintln!(rt; "ipam: {first} does not take {word:?}; ipam --help tells the words")
+    let _ = match wanted_by(first) {
+        Some(wanted) => {
+            eprintln!(rt; "ipam: {first} wants {wanted}; ipam --help tells the words")
         }
-        _ => eprintln!(rt; "ipam: {first} does not take these words; ipam --help tells the words"),
+        None if first == "\u{fffd}" => {
+            eprintln!(rt; "ipam: a word is no UTF-8; ipam --help tells the words")
+        }
+        None => eprintln!(rt; "ipam: unknown word {first:?}; ipam --help tells the words"),
     };
 }
 
-fn begins_command(word: &str) -> bool {
-    FIRST_WORDS.split(' ').any(|first| first == word)
+/// What has to follow a word that begins a command, or stands before it. None of another word.
+fn wanted_by(first: &str) -> Option<&'static str> {
+    match first {
+        "cni" | "play" | "apply" | "--help" | "--version" => Some("no more words"),
+        "show" => Some("no more words, or --json, blocks, IP, or node NODE"),
+        "get" => Some(
+            "no more words, or one of config, pools, reservations, block, affinity and handle",
+        ),
+        "gen" => Some("N, a number of requests"),
+        "routes" => Some("NODE"),
+        "release" => Some("NODE CIDR"),
+        "unreserve" => Some("NAME"),
+        "audit" => Some("N, a number from 1 to 16"),
+        "backup" => Some("FILE"),
+        "call" => Some("ADDRESS"),
+        "serve" => Some("ADDRESS N, with N from 1 to 16"),
+        "--no-wait" => Some("the words of a command"),
+        _ => None,
+    }
 }
 
 /// Tells a person at a terminal that the rows of a large database are being read.
