@@ -260,6 +260,9 @@ def try_daemon(node):
     configuration = node.folder / "bin/calico-ipam.conf"
     configuration.write_text(f"daemon {address}\n")
     is_same("the plugin asks the daemon that its configuration names", code_of(node.call("f")), 0)
+    configuration.write_text(f"database {node.rows}\r\n")
+    seen = code_of(node.call("r")), os.path.exists(f"{node.rows}\r")
+    is_same("a line of the plugin with a carriage return names no database", seen, (5, False))
     configuration.write_text(f"database {node.rows}\n")
     # (the daemon gave its turn back)
     node.turn().close()
