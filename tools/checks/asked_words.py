@@ -106,6 +106,9 @@ def looks(blocks):
         yield ["show", cidr.split("/")[0]]
     for address in ("10.0.0.1", "10.0.0.77", "10.0.1.0", "fd00::", "fd00::1:0:0:0:1"):
         yield ["show", address]
+    for words in (["addresses"], ["addresses", "10.0.0.0/28"], ["addresses", "--node", "a"], ["borrowed"]):
+        yield ["show", *words]
+        yield ["show", *words, "--json"]
 
 
 def questions(draw, blocks):

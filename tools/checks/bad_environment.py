@@ -66,10 +66,10 @@ def rows():
         told = refusal(name.decode())
         yield f"ADD, {name} is no UTF-8", [], entries_of(b"ADD", {name: bad}.items()), config, 1, told, False, []
         yield f"ADD, the last {name} is no UTF-8", [], entries_of(b"ADD", more=[name + b"=" + bad]), config, 1, told, False, []
-    yield "DEL does not look at a namespace", [], entries_of(b"DEL", {b"CNI_NETNS": bad}.items()), config, 0, b"", False, None
-    yield "the last command counts", [], entries_of(b"ADD", more=[b"CNI_COMMAND=DEL"]), config, 0, b"", False, None
+    yield "DEL does not look at a namespace", [], entries_of(b"DEL", {b"CNI_NETNS": bad}.items()), config, 0, b"", True, None
+    yield "the last command counts", [], entries_of(b"ADD", more=[b"CNI_COMMAND=DEL"]), config, 0, b"", True, None
     yield "the last interface counts", [], entries_of(b"ADD", more=[b"CNI_IFNAME=a/b"]), config, 1, refusal("CNI_IFNAME"), False, []
-    yield "another entry is no UTF-8", [], entries_of(b"DEL", more=[b"OTHER=" + bad, bad]), config, 0, b"", False, None
+    yield "another entry is no UTF-8", [], entries_of(b"DEL", more=[b"OTHER=" + bad, bad]), config, 0, b"", True, None
     version = entries_of(b"VERSION")
     yield "VERSION makes no file", [], version, config, 0, lambda out: "supportedVersions" in json.loads(out), False, []
     yield "a refused call makes no file", [], entries_of(b"ADD", {b"CNI_IFNAME": b""}.items()), config, 1, refusal("CNI_IFNAME"), False, []

@@ -439,13 +439,13 @@ class Play:
         return [told_end(self.daemon.process.wait(PATIENCE), Path(f"{self.database}.out").read_text())]
 
     def logged(self):
-        """The lines of the log after that of the first connection."""
+        """The lines of the log after that of the first connection, by their texts: sessions end in any order."""
         until, count = time.monotonic() + PATIENCE, 1 + len(self.clients) + self.calls
         lines = []
         while len(lines) < count and time.monotonic() < until:
             time.sleep(0.001)
             lines = [line for line in self.lines() if "session" in line]
-        return lines[1:count]
+        return sorted(lines[1:count])
 
     def warned(self):
         """The lines of the log that are of no session and no connection's first byte."""

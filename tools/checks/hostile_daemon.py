@@ -19,6 +19,7 @@ import os
 import random
 import re
 import resource
+import selectors
 import shutil
 import signal
 import socket
@@ -40,6 +41,9 @@ MB = 1 << 20
 STACK = 256 * MB       # bytes of the stack of a thread, where only so many find room
 MOST_PEAK = 600        # MB of memory at the peak of sixteen long lines
 MOST_AFTER = 60        # MB that stay
+FRESH = 2              # seconds in which a call is answered, however many connections are kept
+TURN = 20              # seconds in which each of many connections that are kept is answered
+FILES = 1024           # files that a process may have open where nothing else is set
 POOL = {"kind": "IPPool", "metadata": {"name": "pods"}, "spec": {"cidr": "10.0.0.0/16"}}
 
 
@@ -344,7 +348,7 @@ def few_threads(seen, program):
 
     daemon = Daemon(program, workers=8).apply().start(before=before)
     told = [line for line in daemon.logged().splitlines() if "workers" in line]
-    silent = [held(daemon) for _ in range(2)]
+    silent = [busy(daemon) for _ in range(2)]
     waiting = [daemon.connect() for _ in range(4)]
     for connection in waiting:
         connection.sendall(b"{\"feed\":[]}\n")
@@ -355,7 +359,7 @@ def few_threads(seen, program):
         answered += bool(connection.recv(1 << 16))
         connection.close()
     seen.say("room for two threads of eight", f"{told}; {answered} of 4 who waited were served within "
-             f"{time.monotonic() - begin:.1f} s once one of two silent clients left", len(told) == 1 and answered == 4)
+             f"{time.monotonic() - begin:.1f} s once one of two sessions ended that held a worker", len(told) == 1 and answered == 4)
     daemon.ended()
 
 
@@ -407,11 +411,18 @@ def held(daemon):
     return connection
 
 
+def busy(daemon):
+    """A session that holds its worker, since its collection waits."""
+    connection = daemon.connect()
+    reply(connection, b"{\"request\":{\"collect\":{\"live\":[]}}}\n")
+    return connection
+
+
 def killed_while_busy(seen, program, count, over_tcp):
-    """Each worker is held by a silent session; calls are killed meanwhile; then the workers are let go."""
+    """Each worker is held by a session whose collection waits; calls are killed meanwhile; then the workers are let go."""
     where = "TCP" if over_tcp else "a socket file"
     daemon = Daemon(program, workers=2, over_tcp=over_tcp).apply().start()
-    silent, killed = [held(daemon) for _ in range(2)], 0
+    silent, killed = [busy(daemon) for _ in range(2)], 0
     for first in range(0, count, 8):
         calls = [daemon.call("ADD", f"c{number}") for number in range(first, min(first + 8, count))]
         for call in calls:
@@ -520,10 +531,12 @@ def silent_clients(seen, program, over_tcp):
     begin = time.monotonic()
     is_served = added(daemon, "c1")
     waited = time.monotonic() - begin
-    closed = sum(is_closed(connection, 5) for connection in silent)
+    closed = sum(is_closed(connection, FIRST_LINE + 5) for connection in silent)
+    took = time.monotonic() - begin
     ends.set()
     seen.say(f"four silent and slow clients at four workers, {where}",
-             f"{closed} closed, another is served after {waited:.1f} s", is_served and closed == 4 and waited < FIRST_LINE + 5)
+             f"{closed} closed within {took:.1f} s, another is served after {waited:.1f} s",
+             is_served and closed == 4 and waited < FRESH and took < FIRST_LINE + 5)
     daemon.ended()
 
 
@@ -731,6 +744,151 @@ def environments(seen, program, over_tcp):
     daemon.ended()
 
 
+# ---- many connections that are kept
+
+class Client:
+    """A connection that is kept and asks line after line, and how long its replies took."""
+
+    def __init__(self, connection, number):
+        self.connection, self.number, self.lines = connection, number, 0
+        self.sent, self.got, self.slowest, self.is_cut = time.monotonic(), b"", 0.0, False
+
+    def ask(self):
+        command = "DEL" if self.lines % 2 else "ADD"
+        self.sent, self.got = time.monotonic(), b""
+        self.connection.sendall(line_of(command, f"kept-{self.number}", f"node-{self.number % 8}"))
+
+    def take(self):
+        """Takes what came, and asks again once it is a whole reply. False where the connection is cut."""
+        try:
+            part = self.connection.recv(1 << 16)
+            self.got += part
+            if self.got.endswith(b"\n"):
+                self.lines, self.slowest = self.lines + 1, max(self.slowest, time.monotonic() - self.sent)
+                self.ask()
+        except OSError:
+            part = b""
+        self.is_cut = not part
+        return not self.is_cut
+
+
+class Kept(threading.Thread):
+    """So many connections, all of which ask without a pause until it is ended."""
+
+    def __init__(self, daemon, count):
+        super().__init__(daemon=True)
+        self.clients = [Client(daemon.connect(), number) for number in range(count)]
+        self.is_over = threading.Event()
+
+    def run(self):
+        with selectors.DefaultSelector() as waits:
+            for client in self.clients:
+                waits.register(client.connection, selectors.EVENT_READ, client)
+                client.ask()
+            while not self.is_over.is_set():
+                for found, _ in waits.select(0.1):
+                    if not found.data.take():
+                        waits.unregister(found.data.connection)
+
+    def told(self):
+        """Ends it, and tells the fewest replies of a connection, the slowest reply, and how many were cut."""
+        self.is_over.set()
+        self.join()
+        now = time.monotonic()
+        slowest = max(max(client.slowest, now - client.sent) for client in self.clients)
+        return min(client.lines for client in self.clients), slowest, sum(client.is_cut for client in self.clients)
+
+
+class Silent(threading.Thread):
+    """So many connections that say nothing. One that is closed is made again, but for a second after the last try."""
+
+    def __init__(self, daemon, count):
+        super().__init__(daemon=True)
+        self.target, self.count, self.open, self.closed = daemon, count, set(), 0
+        self.is_over = threading.Event()
+
+    def run(self):
+        while not self.is_over.wait(1):
+            for connection in [one for one in self.open if self.is_shut(one)]:
+                self.open.discard(connection)
+                connection.close()
+                self.closed += 1
+            while len(self.open) < self.count:
+                try:
+                    self.open.add(self.target.connect())
+                except OSError:
+                    break
+
+    @staticmethod
+    def is_shut(connection):
+        connection.setblocking(False)
+        try:
+            return not connection.recv(1)
+        except BlockingIOError:
+            return False
+        except OSError:
+            return True
+
+
+def usual_files():
+    """The process may have as many files open as one may where nothing else is set."""
+    resource.setrlimit(resource.RLIMIT_NOFILE, (FILES, resource.getrlimit(resource.RLIMIT_NOFILE)[1]))
+
+
+def fresh_calls(daemon, seconds):
+    """How long each of some calls took that are made one after the other for so many seconds, and how many failed."""
+    taken, failed, until = [], 0, time.monotonic() + seconds
+    while time.monotonic() < until:
+        begin = time.monotonic()
+        call = daemon.call("ADD", f"fresh-{len(taken)}")
+        call.communicate(stdin_of())
+        failed += call.returncode != 0
+        taken.append(time.monotonic() - begin)
+        time.sleep(0.2)
+    return taken, failed
+
+
+def many_connections(seen, program, over_tcp, workers, count, silent):
+    """Many connections that are kept and busy, beside many that say nothing, and calls that come meanwhile."""
+    where = "TCP" if over_tcp else "a socket file"
+    daemon = Daemon(program, workers=workers, over_tcp=over_tcp).apply().start(before=usual_files)
+    quiet = Silent(daemon, silent)
+    quiet.start()
+    if silent:
+        time.sleep(3)
+    kept = Kept(daemon, count)
+    kept.start()
+    taken, failed = fresh_calls(daemon, TURN / 2)
+    fewest, slowest, cut = kept.told()
+    quiet.is_over.set()
+    quiet.join()
+    seen.say(f"{count} busy connections at {workers} workers beside {silent} silent ones, {where}",
+             f"{len(taken)} calls, of which {failed} failed, took {max(taken):.2f} s at most; of each connection {fewest} replies "
+             f"or more, of which one took {slowest:.2f} s at most; {cut} were cut; {quiet.closed} silent ones were closed",
+             failed == 0 and max(taken) < FRESH and fewest > 0 and slowest < TURN and cut == 0)
+    daemon.ended()
+
+
+def idle_connections(seen, program, over_tcp, count):
+    """Many connections that had a reply each hold no worker, and have the next one too."""
+    where = "TCP" if over_tcp else "a socket file"
+    daemon = Daemon(program, workers=2, over_tcp=over_tcp).apply().start(before=usual_files)
+    kept, begin = [held(daemon) for _ in range(count)], time.monotonic()
+    is_up = added(daemon, "one")
+    waited = time.monotonic() - begin
+    time.sleep(1)
+    spent = daemon.seconds()
+    time.sleep(1)
+    spent = daemon.seconds() - spent
+    answered = sum(reply(connection, b"{\"opened\":true}\n") is not None for connection in kept)
+    seen.say(f"{count} connections that are idle after a reply, at two workers, {where}",
+             f"another is served after {waited:.2f} s, {spent:.2f} s of a processor in a second; {answered} have a second reply",
+             is_up and waited < FRESH and answered == count and spent < 0.1)
+    for connection in kept:
+        connection.close()
+    daemon.ended()
+
+
 # ---- many at once, and memory
 
 def many_at_once(seen, program, over_tcp):
@@ -786,6 +944,8 @@ def main():
     words = words.parse_args()
     program, count, seen = os.path.abspath(words.program), words.count, Seen()
     signal.signal(signal.SIGPIPE, signal.SIG_IGN)
+    most = resource.getrlimit(resource.RLIMIT_NOFILE)[1]
+    resource.setrlimit(resource.RLIMIT_NOFILE, (min(most, 8 * FILES), most))
     with_files = has_files(program)
     over_tcp = not with_files
     parts = []
@@ -799,6 +959,10 @@ def main():
     parts += [(few_files, program, True), (killed_while_busy, program, min(count, 100), True),
               (killed_at_any_moment, program, min(count, 100), True),
               (web_page, program)]
+    busy_ones, silent_ones, idle_ones, workers = (64, 200, 100, 4) if words.quick else (256, 1000, 400, 16)
+    parts += [(many_connections, program, True, workers, busy_ones, silent_ones), (idle_connections, program, True, idle_ones)]
+    if with_files:
+        parts += [(many_connections, program, False, workers, busy_ones, 0), (idle_connections, program, False, idle_ones)]
     if not words.quick:
         parts += [(silent_clients, program, True)]
         parts += [(silent_clients, program, False), (deaf_client, program)] if with_files else []

@@ -1,5 +1,5 @@
 #!/usr/bin/env python3
-"""What a client does where nobody listens yet, where a daemon listens and takes no connection, and what fits a line.
+"""What a client does where nobody listens yet, where a listener takes no connection, and what fits a line.
 
     tools/checks/reach_daemon.py [--quick] [PROGRAM]      else release/ipam
 
@@ -132,6 +132,78 @@ def try_lines(program, folder, rows):
                 try_missing(program, folder, address, {"CNI_COMMAND": command, name: None}, {"CNI_COMMAND": command, name: ""})
 
 
+@contextlib.contextmanager
+def full_queue(path):
+    """A listener at a socket file that has as many connections waiting as it takes, and the connections."""
+    with socket.socket(socket.AF_UNIX) as listener, contextlib.ExitStack() as waiting:
+        listener.bind(path)
+        listener.listen(0)
+        for _ in range(16):
+            one = waiting.enter_context(socket.socket(socket.AF_UNIX))
+            one.setblocking(False)
+            if one.connect_ex(path):
+                break
+        else:
+            check(f"a queue at {path} that is full", False, 16)
+        yield listener
+
+
+def answer(listener, seconds, line):
+    """Takes all connections after so long, and answers each that sends something."""
+    time.sleep(seconds)
+    listener.settimeout(5)
+    while True:
+        with listener.accept()[0] as one:
+            one.settimeout(0.2)
+            with contextlib.suppress(TimeoutError):
+                if one.recv(LINE):
+                    one.sendall(line)
+                    return
+
+
+def try_full(program, folder):
+    """A queue that is full has room after a while: a client waits for it, also where it tries once to find somebody."""
+    reply = b'{"status":0,"stdout":"{}\\n"}\n'
+    env = variables(IPAM_CONNECT_SECONDS="0")
+    for at, (words, line, wanted) in enumerate((
+            (["call", "ADDRESS"], reply, (0, b"{}\n")),
+            (["--daemon", "ADDRESS", "get"], b"what is this\n", (11, b"reply fault\n")))):
+        address = f"{folder}/full{at}.sock"
+        with full_queue(address) as listener:
+            daemon = threading.Thread(target=answer, args=(listener, 0.7, line))
+            daemon.start()
+            told, waited = timed([program, *(address if word == "ADDRESS" else word for word in words)], CONFIGURATION, env)
+            daemon.join()
+        is_same(f"{words[-1]} at a queue that is full for a while", told, wanted)
+        check(f"how long {words[-1]} waits for room", 0.6 < waited < 4, waited)
+    with full_queue(f"{folder}/held.sock"):
+        told, waited = timed([program, "serve", f"{folder}/held.sock", "1"], b"", {"IPAM_DB": f"{folder}/alone.db"})
+    is_same("serve at a socket file whose queue is full", told, (9, b"listen fault\n"))
+    check("it ends at once", waited < 3, waited)
+
+
+def try_full_long(program, folder):
+    """A queue that stays full: the limit of 30 seconds holds."""
+    told, address = {}, f"{folder}/long.sock"
+
+    def ask(*words):
+        told[words] = timed([program, *words], CONFIGURATION, variables())
+
+    asked = [("call", address), *(("--daemon", address, *words) for words in (
+        ("get",), ("show",), ("apply",), ("routes", "a"), ("release", "a", "10.0.0.0/26"), ("unreserve", "a"), ("audit", "1"),
+        ("backup", f"{folder}/long.db")))]
+    with full_queue(address):
+        clients = [threading.Thread(target=ask, args=words) for words in asked]
+        for one in clients:
+            one.start()
+        for one in clients:
+            one.join()
+    for words in asked:
+        seen, waited = told[words]
+        is_same(f"{words} at a queue that stays full", seen, (1, NO_LINK) if words[0] == "call" else (10, b"link fault\n"))
+        check(f"how long it waits: {words}", 29.5 < waited < 31.5, waited)
+
+
 def given(told):
     """What is told, but for which address is given."""
     return told[0], re.sub(rb'"address":"[0-9./]*"', b"", told[1])
@@ -192,7 +264,9 @@ def main():
         try_nobody(program, folder, "1", 0.9, 2.5)
         try_at_once(program, folder)
         try_lines(program, folder, rows)
+        try_full(program, folder)
         if not quick:
+            try_full_long(program, folder)
             try_nobody(program, folder, "x", 9.9, 12)
             try_restart(program, folder, rows)
     print(f"{passed} passed, {failed} failed")

@@ -1,4 +1,4 @@
-"""The table of what an operator is shown of ten datastores.
+"""The table of what an operator is shown of eleven datastores.
 
 Each datastore is made of pools, blocks and reservations, and its rows are written from them. What must be
 shown is counted from the same values, address by address, and not from the rows.
@@ -7,6 +7,7 @@ shown is counted from the same values, address by address, and not from the rows
 import collections
 import ipaddress
 import json
+import re
 
 def J(v): return json.dumps(v, separators=(',', ':'), ensure_ascii=False)
 def net(c): return ipaddress.ip_network(c)
@@ -54,7 +55,8 @@ class Base:
     def inpool(s, p, c): return net(c["cidr"]).version == net(p).version and net(c["cidr"]).subnet_of(net(p))
 def table(rows):
     w = [max(len(r[k].encode()) for r in rows) for k in range(len(rows[0]))]
-    return "".join("  ".join((r[k].ljust(w[k]) if k == 0 else r[k].rjust(w[k])) for k in range(len(r))) + "\n" for r in rows)
+    blanks = lambda k, text: " " * (w[k] - len(text.encode()))
+    return "".join("  ".join((r[k] + blanks(k, r[k]) if k == 0 else blanks(k, r[k]) + r[k]) for k in range(len(r))) + "\n" for r in rows)
 def pools(b):
     rows = [["CIDR", "NAME", "ADDRESSES", "USED", "FREE IN BLOCKS", "PERCENT USED", "BLOCKS"]]
     cs = b.counts()
@@ -91,6 +93,36 @@ def address(b, a):
                 return f"{t} in use\nhandle {h[o][0]}\nattributes {J(dict(sorted(h[o][1].items())))}\nblock {ctext(c)}\nnode {n or '-'}\n"
     if not any(net(c).version == ad.version and ad in net(c) for n, c, s in b.pools): return t + " in no pool\n"
     return t + (" reserved\n" if b.reserved(ad) else " free\n")
+def uses(b):
+    """The addresses in use: each with its block, the block's node, its handle and its attributes, in their order."""
+    for c, n, h in b.order():
+        for o in sorted(h):
+            yield (net(c).network_address + o, c, n, *h[o])
+def is_chosen(choice, use):
+    a, c, n, handle, pairs = use
+    match choice:
+        case ["addresses"]: return True
+        case ["addresses", "--node", node]: return pairs.get("node") == node
+        case ["addresses", cidr]: return net(cidr).version == a.version and a in net(cidr)
+        case ["borrowed"]: return "node" in pairs and pairs["node"] != n
+def word(value):
+    if value is None: return "-"
+    return value if re.fullmatch("[A-Za-z0-9][A-Za-z0-9_.-]{0,252}", value) else J(value)
+KEYS = ["network", "node", "namespace", "pod"]
+def addresses(b, choice):
+    chosen = [use for use in uses(b) if is_chosen(choice, use)]
+    if choice == ["borrowed"]:
+        rows = [["ADDRESS", "NODE", "BLOCK", "NODE OF BLOCK", "HANDLE"]]
+        rows += [[a.compressed, word(pairs["node"]), ctext(c), n or "-", handle] for a, c, n, handle, pairs in chosen]
+    else:
+        rows = [["ADDRESS", "HANDLE", "NETWORK", "NODE", "NAMESPACE", "POD"]]
+        rows += [[a.compressed, handle, *(word(pairs.get(key)) for key in KEYS)] for a, c, n, handle, pairs in chosen]
+    return table(rows)
+def addresses_json(b, choice):
+    chosen = [use for use in uses(b) if is_chosen(choice, use)]
+    return J({"addresses": [
+        {"address": a.compressed, "block": ctext(c), "blockNode": n, "handle": handle, **{key: pairs.get(key) for key in sorted(KEYS)}}
+        for a, c, n, handle, pairs in chosen]}) + "\n"
 B = []
 P = ("p", "10.0.0.0/29", 30)
 B.append(Base())
@@ -105,11 +137,22 @@ B.append(Base([("full", "10.1.0.0/30", 30), ("half", "10.2.0.0/30", 30), ("eight
 B.append(Base([P], [("10.0.0.4/30", "a", {0: ("n.c1", {"a": "", "b": 'say "hi"\\', "node": "a\nb"})})]))
 B.append(Base([("big", "10.0.0.0/8", 23)], [("10.16.0.0/23", "a", {o: (f"n.c{o % 7}", {"node": "ab"[o % 2]}) for o in range(0, 300, 3)})], [("r", ["10.16.0.0/24"])]))
 B.append(Base([("bits", "fd00::/64", 122), ("edge", "ffff:ffff:ffff:ffff:ffff:ffff:ffff:ff00/120", 122)], [("ffff:ffff:ffff:ffff:ffff:ffff:ffff:ffc0/122", "z", {63: ("n.last", {})})]))
+B.append(Base([P], [("10.0.0.0/30", "a", {0: ("net.c1", {"namespace": "default", "network": "net", "node": "b", "pod": "web-0"}), 2: ("net.c2", {"network": "", "node": "-", "pod": "a b"}), 3: ("net.c3", {"namespace": "-x", "network": "é", "node": "", "pod": "x" * 253})}),
+  ("10.0.0.4/30", None, {1: ("net.c2", {"network": "net", "node": "b", "pod": "web_1.x"})})]))
 asks = ["10.0.0.0", "10.0.0.1", "10.0.0.2", "10.0.0.3", "10.0.0.4", "10.0.0.5", "10.0.0.7", "10.0.0.8", "9.255.255.255", "::a00:1", "fd00::"]
 extra = {5: ["2001:db8::2", "2001:db8::", "2001:db8::f", "2001:db8::7", "8000::", "7fff:ffff::", "192.168.0.255", "192.168.0.254", "192.168.0.252", "255.255.255.255", "0.0.0.0", "::"],
   6: ["10.1.0.0", "10.1.0.3", "10.2.0.0", "10.2.0.1", "10.2.0.3", "10.3.0.0", "10.3.0.4", "10.3.0.6", "10.3.0.7", "10.4.0.1", "10.4.0.0", "fd00::", "fd00::1", "fd00::2", "fd00::3", "fd00::4"],
   8: ["10.16.0.3", "10.16.0.4", "10.16.1.41", "10.16.1.0", "10.15.255.255"],
   9: ["ffff:ffff:ffff:ffff:ffff:ffff:ffff:ffff", "ffff:ffff:ffff:ffff:ffff:ffff:ffff:fffe", "fd00:0:0:1::"]}
+def choices(b):
+    """Which addresses are shown: all, those of a pool, of a block and of what has a part of them, of a node."""
+    yield ["addresses"]
+    yield ["borrowed"]
+    cidrs = [*(ctext(c) for n, c, size in b.pools[-1:]), *(ctext(c) for c, n, h in b.blocks[:1])]
+    for cidr in dict.fromkeys([*cidrs, "0.0.0.0/0", "10.0.0.2/31", "10.2.0.1/32", "10.16.0.64/26"]):
+        yield ["addresses", cidr]
+    for node in ("a", "b", "node-2.example"):
+        yield ["addresses", "--node", node]
 def cases():
     """The words, the rows of a file and what must be shown of them."""
     for i, b in enumerate(B):
@@ -121,3 +164,6 @@ def cases():
             yield ["show", "node", n], rows, node(b, n)
         for a in extra.get(i, []) + (asks if i < 5 or i == 7 else []):
             yield ["show", a], rows, address(b, a)
+        for choice in choices(b):
+            yield ["show", *choice], rows, addresses(b, choice)
+            if choice[-1] != "b": yield ["show", *choice, "--json"], rows, addresses_json(b, choice)

@@ -1,4 +1,4 @@
--- What the answers to collections and probes are told as, where GC and STATUS began them.
+-- The replies to collections and probes that GC and STATUS began.
 use Rattle.std.specs.Prelude.{Option, Some}
 use Rattle.ipam_model.specs.declared.answer.Answer.{Answer}
 use Rattle.ipam_model.specs.declared.answer.Answer.TheVariants as answer

@@ -1,4 +1,4 @@
--- What an answer is told as: a status and a text.
+-- The reply to an answer: a status and a text.
 use Rattle.std.specs.Prelude.{ℕ, ◌==◌, Bool, true, false, List, [], ◌∷◌, map, codes, Option, Some, None, if◌then◌else◌}
 use Rattle.ipam_addr.specs.declared.address.Family.{Family}
 use Rattle.ipam_addr.specs.declared.address.Family.TheVariants.{V4, V6}
@@ -28,7 +28,7 @@ limit_text lost = if lost == LOST_RACES_MAX then codes "64 lost races" else code
 
 -- ---- answers
 
--- The failures that are told alike whatever was asked.
+-- The failures that have one reply whatever was asked.
 abbrev pub failure_of : Answer → Option CniReply
 failure_of (answer.Exhausted scan) = Some (Failure NoAddress (family_name scan.family))
 failure_of (answer.NoPool name moment) = Some (Failure NoSuchPool name)
@@ -41,6 +41,18 @@ failure_of (answer.CountFull moment) = Some (Failure HandleCountFull [])
 failure_of answer.Spent = Some (Failure RevisionsSpent [])
 failure_of answer.Fault = Some (Failure InputOutput (codes "keeper"))
 failure_of _ = None
+
+-- The failure of the answer has details, which take memory. Where the datastore or a count is full, or the revisions
+-- are spent, it has none.
+abbrev pub has_details : Answer → Bool
+has_details (answer.Exhausted scan) = true
+has_details (answer.NoPool name moment) = true
+has_details (answer.Taken holder moment) = true
+has_details (answer.NotAffine cidr moment) = true
+has_details (answer.NotRecorded address moment) = true
+has_details (answer.Again lost claims) = true
+has_details answer.Fault = true
+has_details _ = false
 
 abbrev pub addresses_of : List Given → List AddrValue
 addresses_of given = map (λ (g : Given). g.address) given

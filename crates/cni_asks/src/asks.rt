@@ -7,6 +7,6 @@ use ipam_text::Text;
 pub enum Ask {
     /// Nothing: this text answers it at once, with success.
     Tell(Text),
-    /// This request, whose answer is told in this version.
+    /// This request. Its reply is written in this version.
     Begin(Request, Version),
 }

@@ -7,7 +7,8 @@ ghost use Rattle.cni_asks.specs.declared.replies.CniReply.{CniReply as Reply};
 ghost use Rattle.cni_asks.specs.Replying.{is_of_container, cni_reply_of, reply_status, is_success};
 ghost use Rattle.cni_asks.specs.GcReplying.{CanAnswerGc, CanAnswerStatus, gc_reply_of, status_reply_of};
 
-/// Each answer that the request of a container can have is told, so it has one status and one text.
+/// Each answer that the request of a container can have has a reply, so it has one status and one
+/// text.
 #[tactic(auto, using(crate::proofs::AllReplies::each_has_one))]
 pub fn each_answer_has_a_reply()
     ensures { (asked : Asked) (found : Found) → IsTrue (is_of_container asked)
@@ -22,7 +23,8 @@ pub fn success_is_told_of_success_alone()
         → (reply_status reply ≡ 0) ↔ IsTrue (is_success found) }
 {}
 
-/// Each answer that a collection or a probe can have is told, so it has one status and one text.
+/// Each answer that a collection or a probe can have has a reply, so it has one status and one
+/// text.
 #[tactic(auto, using(crate::proofs::GcReplies::gc_has_one, crate::proofs::GcReplies::status_has_one))]
 pub fn each_collection_and_probe_has_a_reply()
     ensures gc { (found : Found) → CanAnswerGc found → IsSome (gc_reply_of found) }

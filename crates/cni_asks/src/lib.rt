@@ -1,4 +1,4 @@
-//! What a CNI call begins, and what an answer of the allocator is told as.
+//! What a CNI call begins, and how an answer of the allocator is replied.
 #![tactic(auto)]
 
 mod asking;

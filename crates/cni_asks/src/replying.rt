@@ -1,10 +1,10 @@
-//! An answer is told.
-ghost use Rattle.std.specs.Prelude.{ℕ, ◌≡◌, ◌↔◌, IsTrue, IfOk, Some, option_map};
+//! The reply to an answer.
+ghost use Rattle.std.specs.Prelude.{ℕ, [], ◌≡◌, ◌↔◌, IsTrue, IfOk, OnErr, Some, option_map};
 ghost use Rattle.ipam_addr.specs.Text.{address_text, cidr_text_of};
 ghost use Rattle.ipam_model.specs.CanAnswer.{CanAnswer};
 ghost use Rattle.cni_types.specs.Texts.{error_text, result_text};
 ghost use Rattle.cni_asks.specs.declared.replies.CniReply.TheVariants.{Failure};
-ghost use Rattle.cni_asks.specs.Replying.{family_name, limit_text, failure_of, addresses_of, reply_to_add, reply_to_this, reply_to_del, reply_to_check, is_of_container, is_success, cni_reply_of, told};
+ghost use Rattle.cni_asks.specs.Replying.{family_name, limit_text, failure_of, has_details, addresses_of, reply_to_add, reply_to_this, reply_to_del, reply_to_check, is_of_container, is_success, cni_reply_of, told};
 
 use crate::replies::CniReply;
 use cni_types::{CniError, Code, Version, push_error, push_result};
@@ -147,9 +147,11 @@ fn reply_to_check(alloc: Global, answer: &Answer) -> Result<Option<CniReply>, Al
     }
 }
 
-/// The failure that an answer is told as whatever was asked, if any.
+/// The failure of an answer that has one reply whatever was asked, if it is one. Only details take memory: a failure
+/// without them can't want it.
 pub fn failure_of(alloc: Global, answer: &Answer) -> Result<Option<CniReply>, AllocError>
-    ensures { IfOk result (λ r. r ≡ failure_of answer.now) }
+    ensures told { IfOk result (λ r. r ≡ failure_of answer.now) }
+    ensures want_of_memory { OnErr result (IsTrue (has_details answer.now)) }
 {
     match answer {
         Answer::Exhausted(scan) => failure(alloc, Code::NoAddress, family_name(scan.family)),
@@ -158,12 +160,19 @@ pub fn failure_of(alloc: Global, answer: &Answer) -> Result<Option<CniReply>, Al
         Answer::NotAffine(cidr, _) => about_cidr(alloc, Code::NotAffine, *cidr),
         Answer::NotRecorded(address, _) => about_address(alloc, Code::NotRecorded, *address),
         Answer::Again(lost, _) => failure(alloc, Code::TryAgain, limit_text(*lost)),
-        Answer::Full => failure(alloc, Code::DatastoreFull, ""),
-        Answer::CountFull(_) => failure(alloc, Code::HandleCountFull, ""),
-        Answer::Spent => failure(alloc, Code::RevisionsSpent, ""),
+        Answer::Full => Ok(Some(bare(alloc, Code::DatastoreFull))),
+        Answer::CountFull(_) => Ok(Some(bare(alloc, Code::HandleCountFull))),
+        Answer::Spent => Ok(Some(bare(alloc, Code::RevisionsSpent))),
         Answer::Fault => failure(alloc, Code::InputOutput, "keeper"),
         _ => Ok(None),
     }
+}
+
+/// A failure without details.
+fn bare(alloc: Global, code: Code) -> CniReply
+    ensures { result ≡ Failure code [] }
+{
+    CniReply::Failure(code, Text::of(String::new(alloc)))
 }
 
 fn failure(alloc: Global, code: Code, details: &str) -> Result<Option<CniReply>, AllocError>

@@ -65,7 +65,8 @@ abbrev pub truth_or_default : Bool → Option Data → Option Bool
 truth_or_default default None = Some default
 truth_or_default default (Some d) = truth_of d
 
--- whether a family is wanted, where that is said rightly or not at all
+-- whether a family is wanted: the truth value of this name, or the default where it has
+-- none
 abbrev pub choice : List ℕ → Bool → Data → Option Bool
 choice name default d = truth_or_default default (inside (codes "ipam") name d)
 

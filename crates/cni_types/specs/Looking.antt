@@ -59,7 +59,7 @@ decoded command stdin =
 abbrev pub known_version_in : Data → Option versions.Version
 known_version_in d = version_of (text_or_empty_at (codes "cniVersion") d)
 
--- the version in which an answer is told
+-- the version that an answer is written in
 abbrev pub told_version : Data → versions.Version
 told_version d = unwrap_or (known_version_in d) V1_0_0
 
@@ -120,7 +120,7 @@ code_of refusal.Version = IncompatibleVersion
 code_of (refusal.Configuration member) = InvalidConfiguration
 code_of (refusal.Environment variable) = InvalidEnvironment
 
--- the version as it was said, the member's path or the variable's name
+-- the version as the configuration has it, the member's path or the variable's name
 abbrev pub details_of : Data → Refusal → List ℕ
 details_of d refusal.Version = text_or_empty_at (codes "cniVersion") d
 details_of d (refusal.Configuration member) = member_text member

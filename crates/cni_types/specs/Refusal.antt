@@ -1,4 +1,4 @@
--- What is told of a refusal: the path of a member, or the name of a variable.
+-- The details of a refusal: the path of a member, or the name of a variable.
 use Rattle.std.specs.Prelude.{ℕ, List, [], ◌++◌, codes, decimal}
 use Rattle.cni_types.specs.declared.refusal.Member.{Member}
 use Rattle.cni_types.specs.declared.refusal.Member.TheVariants.{Name, NodeName, NodeLabels, Ipam, IpamType, AssignIpv4, AssignIpv6, Ipv4Pools, Ipv6Pools, PrevResult, PrevResultIps, Attachments, Attachment, AttachmentContainer, AttachmentInterface}

@@ -98,8 +98,8 @@ pub(crate) fn wants_ipv6(json: &Value) -> bool
     choice(json, "assign_ipv6", false).unwrap_or(false)
 }
 
-/// Whether a family is wanted, where that is said rightly, by a truth value or its text, or not at
-/// all.
+/// Whether a family is wanted: the truth value of this name or its text, or the default where
+/// there is none. `None` where it is neither.
 fn choice(json: &Value, name: &str, default: bool) -> Option<bool>
     ensures { result ≡ choice name.now default (view json.now) }
 {

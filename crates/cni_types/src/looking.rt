@@ -139,7 +139,8 @@ fn version_in(json: &Value) -> Option<Version>
     Version::of(text_at(json, "cniVersion"))
 }
 
-/// The version in which an answer is told.
+/// The version that an answer is written in: the configuration's where it is known, and else
+/// 1.0.0.
 fn told_version(json: &Value) -> Version
     ensures { result ≡ told_version (view json.now) }
 {
@@ -187,7 +188,7 @@ fn code_of(refusal: Refusal) -> Code
     }
 }
 
-/// The version as it was said, the member's path or the variable's name.
+/// The version as the configuration has it, the member's path or the variable's name.
 fn details_of(alloc: Global, json: &Value, refusal: Refusal) -> Result<Text, AllocError>
     ensures { IfOk result (λ details. details ≡ details_of (view json.now) refusal) }
 {

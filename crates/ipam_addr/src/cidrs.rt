@@ -85,7 +85,7 @@ impl Cidr {
         self.prefix
     }
 
-    /// Its first address.
+    /// The first address.
     pub fn base(&self) -> Addr
         ensures value { result ≡ first_address self.now }
         ensures sound { IsCidr self.now }
@@ -97,7 +97,7 @@ impl Cidr {
         }
     }
 
-    /// Its last address.
+    /// The last address.
     pub fn last(&self) -> Addr
         ensures family { result.family ≡ self.now.family }
         ensures value { result.number ≡ self.now.base + cidr_size self.now - 1 }

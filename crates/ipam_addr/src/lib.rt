@@ -14,7 +14,7 @@ pub use address::{Addr, Family};
 pub use cidrs::{AddrFault, Cidr};
 pub use names::{MOST_HANDLE_BYTES, MOST_NAME_BYTES, is_handle_id, is_name};
 pub use prefix::cidr;
-pub use slots::{allows_size, has_slots, last_slot, slot, slot_number};
+pub use slots::{allows_size, last_slot, slot, slot_number};
 pub use spared::Spared;
 pub use std::alloc::AllocError as Memory;
 pub use text::{push_addr, push_cidr, read_addr, read_cidr};

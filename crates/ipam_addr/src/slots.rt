@@ -17,13 +17,6 @@ pub fn allows_size(family: Family, size: u8) -> bool
     }
 }
 
-/// Whether the pool has slots of this size: one that its family allows, and not below its prefix.
-pub fn has_slots(pool: Cidr, size: u8) -> bool
-    ensures { IsTrue result ↔ HasSlots pool size }
-{
-    allows_size(pool.family(), size) && pool.prefix() <= size
-}
-
 /// The number of the pool's last slot of this size.
 pub fn last_slot(pool: Cidr, size: u8) -> u128
     requires { HasSlots pool size }

@@ -105,7 +105,7 @@ abbrev pub claims_leaves : ThisGoing → Left → Stage → ClaimTurned → Part
 claims_leaves g left (Claims claim) turned = part_then (bound (claim_leaves claim turned) (after_claim left)) (this_then_next g)
 claims_leaves g left stage turned = this_part g left stage
 
--- and likewise the assignment
+-- what is left once the assignment goes where a reply led it; no other stage has one
 abbrev pub assigns_leaves : ThisGoing → Left → Stage → AssigningTurned → Part AddThisAnswer
 assigns_leaves g left (Assigns looked assigning) turned =
     part_then (assigning_leaves g.request.attributes.handle assigning turned)

@@ -83,7 +83,7 @@ abbrev pub serves_leaves : AddRequest → Turn → Stage → ServingTurned → P
 serves_leaves request turn (Serves serving) turned = bound (serving_leaves request serving turned) (family_then request turn)
 serves_leaves request turn stage turned = add_part request turn stage
 
--- and likewise the freeing
+-- what is left once the freeing goes where a reply led it; no other stage has one
 abbrev pub refuses_leaves : AddRequest → Turn → Stage → FreeingTurned → Part AddAnswer
 refuses_leaves request turn (Refuses freeing answer) turned =
     part_then (freeing_leaves request.attributes.handle freeing turned) (then_answer answer)

@@ -63,7 +63,7 @@ raises_leaves id b revision (Raises raising) turned =
     part_then (raising_leaves id raising turned) (write_after id b revision)
 raises_leaves id b revision stage turned = assigning_at id b revision stage
 
--- and likewise the lowering
+-- what is left once the lowering goes where a reply led it; no other stage has one
 abbrev pub lowers_leaves : List ℕ → BlockValue → (revision : ℕ) → Stage → LoweringTurned → PartAssigned
 lowers_leaves id b revision (Lowers lowering) turned = part_then (lowering_leaves id lowering turned) nothing
 lowers_leaves id b revision stage turned = assigning_at id b revision stage

@@ -90,13 +90,13 @@ abbrev pub scans_leaves : Going → Left → Step → Learned → Part Served
 scans_leaves g left (Scans scanning) learned = scans_part g left (learn scanning.stage learned)
 scans_leaves g left step learned = serving_at g left step
 
--- and likewise the claim
+-- what is left once the claim goes where a reply led it; no other step has one
 abbrev pub claims_leaves : Going → Left → Step → ClaimTurned → Part Served
 claims_leaves g left (Claims claim) turned =
     part_then (bound (claim_leaves claim turned) (after_claim left)) (then_next g)
 claims_leaves g left step turned = serving_at g left step
 
--- and the assignment
+-- what is left once the assignment goes where a reply led it; no other step has one
 abbrev pub assigns_leaves : Going → Left → Step → AssigningTurned → Part Served
 assigns_leaves g left (Assigns spot assigning) turned =
     part_then (assigning_leaves g.request.attributes.handle assigning turned) (after_assigned g spot.scan spot.place)

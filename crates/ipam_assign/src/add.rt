@@ -123,7 +123,7 @@ impl AddProc {
         }
     }
 
-    /// This is answered, once what was given is freed.
+    /// Goes to this answer, by way of freeing what was given to the first family.
     fn refuses(&mut self, left: Left, answer: AddAnswer) -> Option<AddAnswer>
         ensures answer { result ≡ answer_in (add_at (refuse self.old.request (turn_gifts self.old.turn) answer left)) }
         ensures on { IfNone result (add_rest self.new ≡ add_at (refuse self.old.request (turn_gifts self.old.turn) answer left)) }

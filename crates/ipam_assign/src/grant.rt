@@ -35,7 +35,7 @@ pub enum Obtained {
 }
 
 impl Spot {
-    /// At an ordinal of the block.
+    /// The spot of an ordinal of the block.
     pub(crate) fn of(scan: Scan, block: &Block, ordinal: u16) -> Spot
         requires { ordinal < cidr_size block.now.cidr }
         ensures scan { result.scan ≡ scan }
@@ -55,7 +55,8 @@ impl Grant {
         Grant { spot, done }
     }
 
-    /// What is told of it.
+    /// The address, with the moments of the reads that led to it and of the write that
+    /// recorded it.
     pub(crate) fn given(&self) -> Given
         ensures { result ≡ (gift_in self.now).given }
     {

@@ -46,7 +46,7 @@ impl Place {
         })
     }
 
-    /// That of an ordinal of a block.
+    /// The place of an ordinal of a block.
     pub fn in_block(block: &Block, ordinal: u16) -> Place
         requires { ordinal < cidr_size block.now.cidr }
         ensures { result ≡ record { cidr = block.now.cidr; address = ordinal_address block.now.cidr ordinal } }

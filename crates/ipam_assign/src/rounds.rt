@@ -12,7 +12,7 @@ pub struct Rounds {
 impl Rounds {
     ghost use Rattle.ipam_assign.specs.Rounds.{fewer};
 
-    /// Those of a request with so much left.
+    /// The rounds that may follow in a request with so much left.
     pub fn of(left: Left) -> Rounds
         ensures { result.more ≡ left.races + left.claims }
     {

@@ -17,7 +17,8 @@ fn all_of(alloc: Global, texts: &[&str]) -> Result<Vec<Addr>, AllocError> {
     Ok(all)
 }
 
-/// The address of the text. One that cannot be read is told as want of memory.
+/// The address that the text reads as. One that is no address fails with
+/// `AllocError`.
 fn addr_of(text: &str) -> Result<Addr, AllocError> {
     match read_addr(text.as_bytes()) {
         Ok(addr) => Ok(addr),

@@ -21,7 +21,7 @@ fn records_of(alloc: Global, rows: &[&str]) -> Result<Vec<Record>, AllocError> {
     Ok(records)
 }
 
-/// The record of the row. One that cannot be read is told as want of memory.
+/// The record of the row. A row that can't be read fails with `AllocError`.
 pub fn record_of(alloc: Global, row: &str) -> Result<Record, AllocError>
     ensures { IfOk result IsRecord }
 {

@@ -70,7 +70,7 @@ pub fn take_turns<R: Threads + Wait + Sync>(
     tell(rt, &start, made.unwrap_or(0))
 }
 
-/// There is no answer where there was no memory for the lock.
+/// How many turns were taken. `None` where there was no memory for the lock.
 fn made<R: Threads + Wait + Sync>(rt: &R, alloc: Global, others: u32, turns: u32) -> Option<u64> {
     let (lock, pass) = TurnLock::new(alloc, Tally { turns: 0 }).ok()?;
     let pass = spread(rt, &lock, pass, others, turns);

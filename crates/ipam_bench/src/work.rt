@@ -26,7 +26,7 @@ pub enum Work<'a> {
     Get(&'a Store, &'a [Call]),
     /// Chooses an address by all that is listed.
     Choose(&'a Wanted<'a>, &'a View<'a>),
-    /// The same with the node's confirmed affinities gathered before.
+    /// Chooses an address, with the node's confirmed affinities gathered before.
     Pick(&'a Wanted<'a>, &'a Known<'a, 'a>),
 }
 

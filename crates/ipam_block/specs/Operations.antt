@@ -37,11 +37,11 @@ room reserved b = find (λ o. not (reserved (ordinal_address b.cidr o))) b.queue
 abbrev pub holder : BlockValue → ℕ → Option Allocation
 holder b ordinal = find (λ a. a.ordinal == ordinal) b.allocations
 
--- what is told of an allocation: what it is recorded to, and its stamp
+-- what an allocation records: its attributes and its stamp
 abbrev pub holding : Allocation → Attributes × ℕ
 holding a = (a.attributes, a.stamp)
 
--- the same where the attributes are lent
+-- attributes that are lent, if any, and their stamp, as values
 abbrev pub lent_holding : Option (Bor Attributes × ℕ) → Option (Attributes × ℕ)
 lent_holding = option_map (λ p. (p.0.now, p.1))
 

@@ -64,7 +64,7 @@ impl Model for SharedAttributes {
 }
 
 impl SharedAttributes {
-    /// These attributes, with nothing copied. Takes no memory.
+    /// Shares the attributes, with nothing copied. Takes no memory.
     pub fn of(alloc: Global, attributes: Attributes) -> SharedAttributes
         ensures { result ≡ attributes }
     {

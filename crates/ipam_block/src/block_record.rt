@@ -71,9 +71,9 @@ impl Model for Block {
 /// Which allocations are freed.
 #[derive(Clone, Copy)]
 pub enum Which<'a> {
-    /// All of a handle's.
+    /// All allocations of this handle.
     Owned(&'a str),
-    /// That of an ordinal, where the handle holds it with the stamp.
+    /// The allocation of this ordinal, if this handle holds it with this stamp.
     Stamped(u16, &'a str, u64),
 }
 

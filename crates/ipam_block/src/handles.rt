@@ -235,7 +235,7 @@ fn ascend(counts: &[(Cidr, u32)]) -> bool
 fn is_count(entry: &(Cidr, u32)) -> bool
     ensures { IsTrue result ↔ IsCount entry.now }
 {
-    // As in `counted`.
+    // A block whose prefix is read is known to be a sound CIDR.
     let _prefix = entry.0.prefix();
     entry.1 > 0
 }

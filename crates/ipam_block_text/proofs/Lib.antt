@@ -14,5 +14,6 @@ pub mod Numbers
 pub mod Canonical
 pub mod Exact
 pub mod Written
+pub mod DecimalOrder
 pub mod StampPlaces
 pub mod PairsWritten

@@ -1,69 +1,20 @@
--- The index of attributes is found by an ordered map, and the places of ordinals by a walk.
-use Rattle.std.proofs.Common.{◌≡◌, ◌≢◌, ◌∙◌, ℕ, zero, suc, ◌+◌, ◌<◌, ◌≤◌, Bool, true, false, cond, List, [], ◌∷◌, ◌++◌, length, map, get_or, Option, Some, None, is_some, nat_cmp, Ordering, Less, Equal, Greater, inl, inr, refl, sym, ap, arith, eq-eqb, ne_eqb, ◌||◌}
+-- The index of attributes is found by a map, and the places of ordinals by a walk.
+use Rattle.std.proofs.Common.{◌≡◌, ◌≢◌, ◌∙◌, ℕ, zero, suc, ◌+◌, ◌<◌, ◌≤◌, Bool, true, false, cond, List, [], ◌∷◌, ◌++◌, length, map, get_or, Option, Some, None, is_some, inl, inr, refl, sym, ap, arith, eq-eqb, ne_eqb, ◌||◌}
 use Rattle.std.specs.Prelude.{AllPairs, find, position, option_and_then, ◌==◌}
-use Rattle.std.specs.BTreeMap.{BTreeMap, get_by, is_at, Updates}
-use Rattle.std.specs.Cmp.Lexicographic.{slice_cmp}
-use Rattle.std.specs.FinMap.{slice_cmp-IsAntisymmetric}
+use Rattle.std.specs.HashMap.{HashMap, get, Updates}
 use Rattle.std.specs.List.{list_any, position_from}
 use Rattle.std.specs.Map.{lookup}
-use Rattle.std.specs.Ordering.{ordering_then, is_eq}
 use Rattle.std.proofs.lemmas.Bool.{cases_lt, cases_eq}
-use Rattle.std.proofs.lemmas.Cmp.{tied_itself, nat_list_cmp_total}
 use Rattle.std.proofs.lemmas.Iterator.Adapters.{position_from-zero}
 use Rattle.std.proofs.lemmas.List.Sums.{fold_push}
-use Rattle.std.proofs.lemmas.Map.Lookups.{exact_bytes, exact_pairs}
 use Rattle.ipam_block.specs.declared.allocation.Allocation.{Allocation}
 use Rattle.ipam_block.specs.declared.allocation.Attributes.{Attributes}
 use Rattle.ipam_block.specs.Shape.{BlockValue}
 use Rattle.ipam_block.specs.Operations.{holder}
-use Rattle.ipam_block_text.specs.Attributes.{Pair, are_same, with_attributes, with_those_of, distinct_attributes}
-use Rattle.ipam_block_text.specs.Numbering.{AttributesKey, pair_cmp, key_cmp, IsNumbering, placed, numbered_in, index_at}
+use Rattle.ipam_block_text.specs.Attributes.{are_same, are_same_equiv, with_attributes, with_those_of, distinct_attributes}
+use Rattle.ipam_block_text.specs.Numbering.{IsNumbering, placed, numbered_in, index_at}
 use Rattle.ipam_block_text.specs.Parts.{holder_place}
 use Rattle.ipam_block_text.proofs.ReadBack.{are_same-true, are_same-itself}
-
--- ---- the order tells all attributes apart
-
-abbrev attributes_cmp : Attributes → Attributes → Ordering
-attributes_cmp a b = ordering_then (slice_cmp nat_cmp a.handle b.handle) (slice_cmp pair_cmp a.secondary b.secondary)
-
-exact_pair : (p q : Pair) → pair_cmp p q ≡ Equal → p ≡ q
-exact_pair = exact_pairs (slice_cmp nat_cmp) (slice_cmp nat_cmp) exact_bytes exact_bytes
-
-pair_itself : (p : Pair) → pair_cmp p p ≡ Equal
-pair_itself p = rw (tied_itself nat_list_cmp_total p.0) (tied_itself nat_list_cmp_total p.1)
-
-pairs_itself : (ps : List Pair) → slice_cmp pair_cmp ps ps ≡ Equal
-pairs_itself [] = refl
-pairs_itself (p ∷ ps) = rw (pair_itself p) (pairs_itself ps)
-
-tied : (a : Attributes) → attributes_cmp a a ≡ Equal
-tied a = rw (tied_itself nat_list_cmp_total a.handle) (pairs_itself a.secondary)
-
-apart : (a b : Attributes) → attributes_cmp a b ≡ Equal → a ≡ b
-apart a b e =
-    let both = exact_pairs (slice_cmp nat_cmp) (slice_cmp pair_cmp) exact_bytes (slice_cmp-IsAntisymmetric exact_pair) (a.handle, a.secondary) (b.handle, b.secondary) e in
-    made a.handle b.handle a.secondary b.secondary both
-  where
-    made : (g h : List ℕ) (p q : List Pair) → ◌≡◌ {A = List ℕ × List Pair} (g, p) (h, q) → ◌≡◌ {A = Attributes} (record { handle = g; secondary = p }) (record { handle = h; secondary = q })
-    made g h p q e = let f : List ℕ × List Pair → Attributes = λ x. record { handle = x.0; secondary = x.1 } in ap f e
-
--- a tie in the order is the same as equal texts
-same_test : (a b : Attributes) → is_eq (attributes_cmp a b) ≡ are_same b a
-same_test a b =
-    elim (are_same b a) as (λ v. (are_same b a ≡ v) → is_eq (attributes_cmp a b) ≡ v) [
-      | true ↦ λ e.
-          let same = are_same-true b a e in
-          ap (λ x. is_eq (attributes_cmp a x)) same ∙ ap is_eq (tied a)
-      | false ↦ λ e. not_tied (attributes_cmp a b) refl e
-    ] refl
-  where
-    not_tied : (o : Ordering) → attributes_cmp a b ≡ o → are_same b a ≡ false → is_eq o ≡ false
-    not_tied Less t e = refl
-    not_tied Greater t e = refl
-    not_tied Equal t e =
-        let same = apart a b t in
-        let itself : are_same b a ≡ true = ap (λ x. are_same b x) same ∙ are_same-itself b in
-        absurd cc
 
 -- ---- the first place
 
@@ -106,8 +57,8 @@ module _ {A : Type 0} (p : A → Bool) where
 
 -- ---- the map
 
-pub IsNumbering-empty : (m : BTreeMap AttributesKey ℕ) → m.entries ≡ [] → IsNumbering m []
-IsNumbering-empty m none = λ q. ap (lookup (is_at (key_cmp q))) none
+pub IsNumbering-empty : {S : Type 0} → (m : HashMap Attributes ℕ S) → m.entries ≡ [] → IsNumbering m []
+IsNumbering-empty m none = λ q. ap (lookup (are_same q)) none
 
 -- attributes that are there
 pub there_already : (found : List Attributes) (own : Attributes) (i : ℕ) → position (are_same own) found ≡ Some i → with_attributes found own ≡ found
@@ -130,38 +81,20 @@ new_index found own none =
     ∙ ap (λ o. either o (cond (are_same own own) (Some (length found)) None)) none
     ∙ ap (λ b. cond b (Some (length found)) None) (are_same-itself own)
 
-abbrev pub key_order : AttributesKey → AttributesKey → Ordering
-key_order k l = ordering_then (slice_cmp nat_cmp k.0.now l.0.now) (slice_cmp pair_cmp k.1.now l.1.now)
+-- what the map has at these attributes
+pub found_index : {S : Type 0} → (m : HashMap Attributes ℕ S) (found : List Attributes) (own : Attributes) (r : Option ℕ) → IsNumbering m found → r ≡ get are_same m own → position (are_same own) found ≡ r
+found_index m found own r numbers e = sym (e ∙ numbers own)
 
--- a key of these attributes
-abbrev lent : Attributes → AttributesKey
-lent a = (record { ref_ptr = (0, 0); now = a.handle }, record { ref_ptr = (0, 0); now = a.secondary })
-
--- what the map has at the key of attributes
-pub found_index : (m : BTreeMap AttributesKey ℕ) (found : List Attributes) (own : Attributes) (key : AttributesKey) (r : Option ℕ) → IsNumbering m found → key.0.now ≡ own.handle → key.1.now ≡ own.secondary → r ≡ get_by (key_order key) m → position (are_same own) found ≡ r
-found_index m found own key r numbers handle secondary e =
-    sym
-    (e
-    ∙ ap (λ h. get_by (λ (k : AttributesKey). ordering_then (slice_cmp nat_cmp h k.0.now) (slice_cmp pair_cmp key.1.now k.1.now)) m) handle
-    ∙ ap (λ s. get_by (λ (k : AttributesKey). ordering_then (slice_cmp nat_cmp own.handle k.0.now) (slice_cmp pair_cmp s k.1.now)) m) secondary
-    ∙ numbers own)
-
-pub numbering_more : (m n : BTreeMap AttributesKey ℕ) (found after : List Attributes) (own : Attributes) (key : AttributesKey) → IsNumbering m found → position (are_same own) found ≡ None → key.0.now ≡ own.handle → key.1.now ≡ own.secondary → Updates key_order m n key (Some (length found)) → after ≡ found ++ own ∷ [] → IsNumbering n after
+pub numbering_more : {S : Type 0} → (m n : HashMap Attributes ℕ S) (found after : List Attributes) (own : Attributes) → IsNumbering m found → position (are_same own) found ≡ None → Updates are_same m n own (Some (length found)) → after ≡ found ++ own ∷ [] → IsNumbering n after
 unfolding either
-numbering_more m n found after own key numbers none handle secondary updates pushed q =
-    updates.0 (lent q)
-    ∙ ap (λ b. cond b (Some (length found)) (get_by (key_cmp q) m)) test
+numbering_more m n found after own numbers none updates pushed q =
+    updates.0 q
+    ∙ ap (λ b. cond b (Some (length found)) (get are_same m q)) (are_same_equiv.symm own q)
     ∙ ap (cond (are_same q own) (Some (length found))) (numbers q)
     ∙ last (are_same q own) refl
     ∙ sym (position_push (are_same q) found own)
     ∙ ap (position (are_same q)) (sym pushed)
   where
-    test : is_at (key_order key) (lent q) ≡ are_same q own
-    test =
-        ap (λ h. is_eq (ordering_then (slice_cmp nat_cmp h q.handle) (slice_cmp pair_cmp key.1.now q.secondary))) handle
-        ∙ ap (λ s. is_eq (ordering_then (slice_cmp nat_cmp own.handle q.handle) (slice_cmp pair_cmp s q.secondary))) secondary
-        ∙ same_test own q
-
     last : (b : Bool) → are_same q own ≡ b → cond b (Some (length found)) (position (are_same q) found) ≡ either (position (are_same q) found) (cond b (Some (length found)) None)
     last true e =
         let same = are_same-true q own e in

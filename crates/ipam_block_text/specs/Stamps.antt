@@ -1,5 +1,5 @@
 -- How the code puts the stamps in the order of their names.
-use Rattle.std.specs.Prelude.{ℕ, Bool, false, IsTrue, List, map, take, length, ◌≡◌, ◌≤◌, option_map, unwrap_or, decimal}
+use Rattle.std.specs.Prelude.{ℕ, ◌-◌, Bool, true, false, IsTrue, List, map, length, option_map, unwrap_or, decimal}
 use Rattle.std.specs.List.{AllByRecursion, slice_get}
 use Rattle.std.specs.Ordering.{nat_cmp, is_lt}
 use Rattle.std.specs.Cmp.Lexicographic.{slice_cmp}
@@ -30,8 +30,10 @@ comes_before first second = is_lt (slice_cmp nat_cmp (decimal first) (decimal se
 abbrev pub stands_before : List Stamp → ℕ → ℕ → Bool
 stands_before stamps place o = unwrap_or (option_map (λ s. comes_before s.0 o) (slice_get stamps place)) false
 
--- the place of the ordinal: those that stand before it are those that come before it
-pub record IsPlace (stamps : List Stamp) (o place : ℕ) : Type 0 where
-  pub within : place ≤ length stamps
-  pub front : AllByRecursion (λ s. IsTrue (comes_before s.0 o)) (take place stamps)
-  pub rest : stands_before stamps place o ≡ false
+-- the last comes before the ordinal, or there is none
+abbrev pub ends_before : List Stamp → ℕ → Bool
+ends_before stamps o = unwrap_or (option_map (λ s. comes_before s.0 o) (slice_get stamps (length stamps - 1))) true
+
+-- all of them come before the ordinal
+abbrev pub AreBefore : ℕ → List Stamp → Type 0
+AreBefore o stamps = AllByRecursion (λ s. IsTrue (comes_before s.0 o)) stamps

@@ -1,9 +1,11 @@
 //! The one text of a block's record, which is canonical JSON.
 #![tactic(auto)]
 
+mod decimals;
 mod fault;
 mod form;
 mod held;
+mod key;
 pub mod laws;
 mod parts;
 mod print;

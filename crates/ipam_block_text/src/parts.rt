@@ -4,11 +4,12 @@ ghost use Rattle.ipam_block_text.specs.Attributes.{distinct_attributes, with_att
 ghost use Rattle.ipam_block_text.specs.Numbering.{borrowed, IsNumbering, placed, numbered_in, index_at};
 ghost use Rattle.ipam_block_text.specs.Parts.{block_parts};
 
+use crate::key::AttributesKey;
 use ipam_addr::Cidr;
 use ipam_block::{Allocation, Attributes, Block};
 use ipam_text::{Seq, Text};
 use std::alloc::{AllocError, Global};
-use std::collections::BTreeMap;
+use std::collections::HashMap;
 
 /// What the text of a block says, but for the stamps: for each ordinal that is held the index of
 /// its attributes, the attributes, and the rest as the block has it.
@@ -84,7 +85,7 @@ fn numbered(
     ensures held { IfOk result (λ p. map placed p.1.items
         ≡ map (numbered_in (distinct_attributes allocations.now)) allocations.now) }
 {
-    let mut numbers = BTreeMap::new(alloc);
+    let mut numbers = HashMap::with_capacity(alloc, allocations.len())?;
     let mut attributes = Vec::with_capacity(alloc, allocations.len())?;
     let mut held = Vec::with_capacity(alloc, allocations.len())?;
     for allocation in allocations {
@@ -96,7 +97,7 @@ fn numbered(
 
 /// The index of the attributes among these, where they come last if they are not there yet.
 fn number<'a>(
-    numbers: &mut BTreeMap<(&'a str, &'a [(Text, Text)]), usize>,
+    numbers: &mut HashMap<AttributesKey<'a>, usize>,
     attributes: &mut Vec<&'a Attributes>,
     own: &'a Attributes,
 ) -> Result<usize, AllocError>
@@ -105,7 +106,7 @@ fn number<'a>(
     ensures attributes { OnOk result (borrowed attributes.new.items ≡ with_attributes (borrowed attributes.old.items) own.now) }
     ensures index { IfOk result (λ i. position (are_same own.now) (borrowed attributes.new.items) ≡ Some i) }
 {
-    let key = (own.handle.as_str(), own.secondary.as_slice());
+    let key = AttributesKey { own };
     if let Some(index) = numbers.get(&key) {
         return Ok(*index);
     }

@@ -87,8 +87,8 @@ ReadToEnd (Err Link) left = IsAtEnd left
 ReadToEnd (Err Reply) left = IsAtEnd left
 ReadToEnd (Err Memory) left = ⊤
 
--- The version in which a fault is told: that of standard input once it was read, and else 1.0.0. `same` says
--- that the link is the same: until the version was read, nothing is asked of it.
+-- The version that a fault is written in: that of standard input once it was read, and else 1.0.0. `same`
+-- says that the link is the same: until the version was read, nothing is asked of it.
 abbrev pub IsVersionOf : (same : Type 0) → CallFault → Version → Version → Type 0
 IsVersionOf same Read told version = same × (version ≡ V1_0_0)
 IsVersionOf same Undecodable told version = version ≡ told
@@ -100,7 +100,7 @@ abbrev pub IsToldVersion : (same : Type 0) → CallEnd → Version → Type 0
 IsToldVersion same (Replied reply) told = ⊤
 IsToldVersion same (Failed version fault) told = IsVersionOf same fault told version
 
--- an error is told in this version
+-- an error is written in this version
 abbrev pub IsInVersion : CallEnd → Version → Type 0
 IsInVersion (Replied reply) told = ⊤
 IsInVersion (Failed version fault) told = version ≡ told

@@ -18,7 +18,8 @@ abbrev pub IsVersionRead : (left : Option (List ℕ)) → (faults faults' : ℕ)
 IsVersionRead left faults faults' version =
     ((faults' ≡ faults) × IfSome left (λ input. version ≡ version_for input)) ⊎ (Rose faults faults' × (version ≡ V1_0_0))
 
--- The link failed, and nothing else is told but want of memory to read the version, which is told in 1.0.0.
+-- The link failed, and the end says so, or says want of memory to read the version, which is written in
+-- 1.0.0.
 abbrev pub IsUnreached : (left : Option (List ℕ)) → (faults faults' : ℕ) → CallEnd → Type 0
 IsUnreached left faults faults' (Replied reply) = ⊥
 IsUnreached left faults faults' (Failed version Read) = ⊥

@@ -1,7 +1,8 @@
 //! A connection to the daemon.
-ghost use Rattle.std.specs.Prelude.{◌≡◌, ◌+◌, min, ℕ, List, IfSome, IfNone};
+ghost use Rattle.std.specs.Prelude.{◌≡◌, ◌+◌, ◌<◌, ◌≤◌, min, ℕ, List, IfSome, IfNone};
+ghost use Rattle.std.specs.Duration.{as_nanos};
 ghost use Rattle.ipam_io.specs.Counts.{Rose, next_count};
-ghost use Rattle.ipam_call.specs.Connecting.{HasConnected, HasFailed};
+ghost use Rattle.ipam_call.specs.Connecting.{HasConnected, HasFailed, nanos_tried};
 
 use ipam_socket::{Address, DialError, Limits, SocketLink, Stream, dial};
 use std::net::{Net, TcpStream};
@@ -46,10 +47,12 @@ pub struct Connector<R> {
     patience: Duration,
     connected: u64,
     faults: u64,
+    why: Option<DialError>,
 }
 
 impl<R: Net<Stream = TcpStream> + Clock> Connector<R> {
-    /// What connects within these limits. Where nobody listens it tries again, for as long as its patience.
+    /// What connects within these limits. Where nobody listens it tries again, for as long as its patience. Where
+    /// the daemon has no room for one more connection, it tries for as long as it waits for a first line.
     pub fn new(rt: R, limits: Limits, patience: Duration) -> Connector<R> {
         Connector {
             rt,
@@ -57,38 +60,75 @@ impl<R: Net<Stream = TcpStream> + Clock> Connector<R> {
             patience,
             connected: 0,
             faults: 0,
+            why: None,
         }
+    }
+
+    /// Why nobody was reached the last time, where nobody was. No contract speaks of it.
+    pub fn why(&self) -> Option<DialError> {
+        self.why
     }
 
     /// The connection that the tries come to, with the time that is left of the limit for the first line. One that
     /// leaves no time is closed again, before anything is sent.
-    fn reach(&self, address: &str) -> Option<(Stream, Duration)> {
-        let began = Instant::now(&self.rt).ok()?;
+    fn reach(&self, address: &str) -> Result<(Stream, Duration), DialError> {
+        let Ok(began) = Instant::now(&self.rt) else {
+            return Err(DialError::Failed);
+        };
+        let mut last = DialError::Failed;
         let mut pause = FIRST_PAUSE_MILLIS;
         for _ in 0..MOST_TRIES {
-            let left = self
-                .limits
-                .first
-                .saturating_sub(began.elapsed(&self.rt).ok()?);
+            let left = self.limits.first.saturating_sub(self.spent(&began)?);
             let dialed = dial(&self.rt, Address::of(address), left);
-            let spent = began.elapsed(&self.rt).ok()?;
+            let spent = self.spent(&began)?;
             match dialed {
-                Ok(stream) if spent < self.limits.first => {
-                    return Some((stream, self.limits.first.saturating_sub(spent)));
-                }
-                Ok(_) => return None,
-                Err(DialError::Refused) => {}
-                Err(DialError::Failed) => return None,
+                Ok(stream) => return in_time(stream, time_left(self.limits.first, spent)),
+                Err(error) => last = error,
             }
-            if spent >= self.patience {
-                return None;
-            }
-            let left = self.patience.saturating_sub(spent);
+            let Some(left) = time_left(self.tried_for(last), spent) else {
+                return Err(last);
+            };
             thread::sleep(&self.rt, Duration::from_millis(pause).min(left));
             pause = next_pause(pause);
         }
-        None
+        Err(last)
     }
+
+    /// How long ago it began. An error where the clock fails.
+    fn spent(&self, began: &Instant) -> Result<Duration, DialError> {
+        match began.elapsed(&self.rt) {
+            Ok(spent) => Ok(spent),
+            Err(_) => Err(DialError::Failed),
+        }
+    }
+
+    /// How long it goes on after a try that failed so, counted from the first.
+    fn tried_for(&self, error: DialError) -> Duration
+        ensures { as_nanos result ≡ nanos_tried self.now error }
+    {
+        match error {
+            DialError::Refused => self.patience,
+            DialError::Busy => self.limits.first,
+            DialError::Denied | DialError::Unknown | DialError::Failed => Duration::ZERO,
+        }
+    }
+}
+
+/// The connection, where time is left of the limit.
+fn in_time(stream: Stream, left: Option<Duration>) -> Result<(Stream, Duration), DialError> {
+    match left {
+        Some(left) => Ok((stream, left)),
+        None => Err(DialError::Failed),
+    }
+}
+
+/// What is left of so much time. None where nothing is.
+fn time_left(limit: Duration, spent: Duration) -> Option<Duration>
+    ensures some { IfSome result (λ left. (0 < as_nanos left) × (as_nanos left + as_nanos spent ≡ as_nanos limit)) }
+    ensures none { IfNone result (as_nanos limit ≤ as_nanos spent) }
+{
+    let left = limit.checked_sub(spent)?;
+    if left.is_zero() { None } else { Some(left) }
 }
 
 /// The pause after this one: twice as long, up to the longest.
@@ -110,16 +150,18 @@ impl<R: Net<Stream = TcpStream> + Clock + Copy> Connects<SocketLink<R, Stream>> 
     /// first that answers. The time that this takes is taken off the limit for the first line.
     fn connect(&mut self, address: &str) -> Option<SocketLink<R, Stream>> {
         match self.reach(address) {
-            Some((stream, left)) => {
+            Ok((stream, left)) => {
                 self.connected = self.connected.saturating_add(1);
+                self.why = None;
                 let limits = Limits {
                     first: left,
                     ..self.limits
                 };
                 Some(SocketLink::of_call(self.rt, stream, limits))
             }
-            None => {
+            Err(why) => {
                 self.faults = self.faults.saturating_add(1);
+                self.why = Some(why);
                 None
             }
         }

@@ -57,7 +57,8 @@ pub fn run_call<S: Source, K: Sink, L: Link>(
     tell_end(sink, &end)
 }
 
-/// The same, but for what is written.
+/// Sends the call of the environment and of what the source has, and takes the reply. Writes nothing but to
+/// the link.
 fn call_daemon<S: Source, L: Link>(
     alloc: Global,
     env: &[(Text, Text)],
@@ -107,7 +108,7 @@ fn call_with<L: Link>(alloc: Global, env: &[(Text, Text)], input: &[u8], link: &
     }
 }
 
-/// Makes the call. Its errors are told in this version.
+/// Makes the call. Its errors are written in this version.
 fn call_in<L: Link>(
     alloc: Global,
     env: &[(Text, Text)],

@@ -26,6 +26,16 @@ pub fn tell_end<K: Sink>(sink: &mut K, end: &CallEnd) -> u8
     }
 }
 
+/// Writes the error of a call of which nothing was read since there is no memory: so it is in version 1.0.0. Takes no
+/// memory. Gives the status 1, and 4 where the write failed.
+pub fn tell_no_memory<K: Sink>(sink: &mut K) -> u8
+    ensures told { WritesCallEnd (CallEnd.Failed Version.V1_0_0 CallFault.Memory) (K.written sink.old) (K.written sink.new)
+        (K.write_faults sink.old) (K.write_faults sink.new) result }
+    ensures rest { K.write_rest sink.new ≡ K.write_rest sink.old }
+{
+    tell_fault(sink, Version::V1_0_0, CallFault::Memory)
+}
+
 fn tell_fault<K: Sink>(sink: &mut K, version: Version, fault: CallFault) -> u8
     ensures told { WritesCallEnd (CallEnd.Failed version fault) (K.written sink.old) (K.written sink.new)
         (K.write_faults sink.old) (K.write_faults sink.new) result }

@@ -15,9 +15,9 @@ use std::alloc::{AllocError, Global};
 /// Writes the error of a call that didn't reach the daemon, the code 111 with the details `link`,
 /// and gives the status 1, or 4 where the sink failed.
 ///
-/// The error is told in the version of standard input, which is read for that alone, and in 1.0.0
-/// where it tells none that is supported or can't be read. Where there is no memory to read it, the
-/// error is that of want of memory.
+/// The error is written in the version of standard input, which is read for that alone, and in
+/// 1.0.0 where it has none that is supported or can't be read. Where there is no memory to read it,
+/// the error is that of want of memory.
 pub fn tell_unreached<S: Source, K: Sink>(alloc: Global, source: &mut S, sink: &mut K) -> u8
     ensures told { (end : End) × IsUnreached (S.left source.old) (S.read_faults source.old) (S.read_faults source.new) end
         × WritesCallEnd end (K.written sink.old) (K.written sink.new)

@@ -25,7 +25,7 @@ pub record Sight : Type 0 where
   pub reserved : AddrValue → Bool
   pub blocks : List StoredRecord
 
--- that of a request
+-- what a request sees of what it has read
 abbrev pub sight_in : Asked → Seen → Sight
 sight_in asked seen = record {
   node = asked.node;

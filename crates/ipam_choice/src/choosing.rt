@@ -32,7 +32,8 @@ pub fn choose(alloc: Global, wanted: &Wanted, view: &View) -> Result<Choice, All
     }
 }
 
-/// The same with the block that was listed at the slot.
+/// Which address an ADD takes, or which slot it claims first, with the block that was
+/// listed at the slot.
 pub fn pick<'a>(alloc: Global, wanted: &Wanted, view: &View<'a>) -> Result<Picked<'a>, AllocError>
     ensures { IfOk result (λ picked. (reservations : List ReservationValue)
         → IsSetOf reservations view.now.reserved.now
@@ -49,7 +50,8 @@ pub fn pick<'a>(alloc: Global, wanted: &Wanted, view: &View<'a>) -> Result<Picke
     Ok(pick_known(wanted, &known))
 }
 
-/// The same where the node's confirmed affinities were gathered before. Takes no memory.
+/// Which address an ADD takes, or which slot it claims first, where the node's confirmed
+/// affinities were gathered before. Takes no memory.
 pub fn pick_known<'a>(wanted: &Wanted, known: &Known<'a, '_>) -> Picked<'a>
     ensures { pick_as result ≡ pick_in (asked_of wanted.now) known.now.pools.now (sight_of_known (asked_of wanted.now) known.now) }
 {

@@ -21,7 +21,7 @@ pub struct Confirmed {
 impl Confirmed {
     ghost use Rattle.ipam_choice.specs.Confirmed.{has_confirmed};
 
-    /// Those of the node.
+    /// The blocks whose affinity to the node is confirmed among these.
     pub fn of(alloc: Global, node: &str, affinities: &Listing) -> Result<Confirmed, AllocError>
         ensures { IfOk result (λ confirmed. (cidr : CidrValue) → has_confirmed confirmed cidr
             ≡ list_any (is_confirmed_for node.now cidr) (rows_of affinities.now)) }

@@ -62,7 +62,7 @@ impl Candidate<'_> {
 }
 
 impl Picked<'_> {
-    /// The same without the block.
+    /// The choice, without the block.
     pub fn choice(&self) -> Choice
         ensures { result ≡ choice_in (pick_as self.now) }
     {

@@ -29,7 +29,7 @@ pub record Runs (running : Running) (one : model.RunningRequest) : Type 0 where
   pub word : running_rest running ≡ one.word
   pub grace : running_grace running ≡ grace_of one.request
 
--- the same runs in both, or nothing in either
+-- the slot runs what the model's slot runs, or nothing runs in either
 abbrev pub IsSlot : Option Running → Option model.RunningRequest → Type 0
 IsSlot None None = Unit {0}
 IsSlot None (Some one) = ⊥

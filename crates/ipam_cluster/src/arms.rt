@@ -1,4 +1,5 @@
-//! What runs goes where a reply led it, and its answer is told as its request's.
+//! Each kind of request goes where a reply led it, and its answer becomes that of the
+//! cluster.
 ghost use Rattle.std.specs.Prelude.{◌≡◌, IfNone};
 ghost use Rattle.ipam_records.specs.Word.{answer_in};
 ghost use Rattle.ipam_model.specs.Told.{of_add, of_add_this, of_del, of_check, of_release, of_collect, of_admin, of_probe};

@@ -246,7 +246,7 @@ impl Cluster {
         })
     }
 
-    /// One entry more, after which this runs in the slot.
+    /// Adds an entry, after which this runs in the slot.
     pub(crate) fn put(&mut self, slot: u8, running: Option<Running>)
         requires slot { slot < SLOTS }
         requires room { self.old.entries + 1 + busy_count (slice_set self.old.slots.items slot running) ≤ 2 ^ 62 + SLOTS }
@@ -258,7 +258,8 @@ impl Cluster {
         self.entries += 1;
     }
 
-    /// One entry more, after which what runs in the slot has gone where a reply led it.
+    /// Adds an entry, after which what runs in the slot has gone where a reply led it. Returns its
+    /// answer, if it came to one.
     pub(crate) fn turn(&mut self, slot: u8, turned: RunningTurned) -> Option<Answer>
         requires slot { slot < SLOTS }
         requires few { self.old.entries < 2 ^ 62 }

@@ -1,5 +1,5 @@
 //! The cluster: the datastore, and the requests that run in its slots, call by call. And what runs in a slot: one
-//! type for the procedure of any request, which is told its answers as the request is.
+//! type for the procedure of any request, with one type for the answers of all.
 #![tactic(auto)]
 
 mod absent;

@@ -27,7 +27,7 @@ pub(crate) fn idle_slots(alloc: Global) -> Result<Vec<Option<Running>>, AllocErr
     Ok(slots)
 }
 
-/// This runs in the slot from now on, and what ran there is dropped.
+/// Puts this into the slot, to run there from now on, and drops what ran there.
 pub(crate) fn put(slots: &mut Vec<Option<Running>>, slot: u8, running: Option<Running>)
     requires { slot < length slots.old.items }
     ensures { slots.new.items ≡ slice_set slots.old.items slot running }

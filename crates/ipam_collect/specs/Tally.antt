@@ -1,4 +1,4 @@
--- What is told of leaks, and the leaks that are left.
+-- The items of leaks that are done with, and the leaks that are left.
 use Rattle.std.specs.Prelude.{ℕ, Bool, List, [], ◌∷◌, ◌++◌, Option, Some, None}
 use Rattle.ipam_model.specs.declared.answer.Item.{Item}
 use Rattle.ipam_model.specs.Remove.{Leak}
@@ -7,7 +7,7 @@ abbrev pub first_in : List Leak → Option Leak
 first_in [] = None
 first_in (leak ∷ rest) = Some leak
 
--- what is told of a leak
+-- the item of a leak
 abbrev pub item_of_leak : Leak → (freed : Bool) → Item
 item_of_leak leak freed = record {
   address = leak.owner.address;

@@ -59,7 +59,8 @@ fn holds_still(suspect: &Suspect, listing: &Listing) -> bool
     holds_around(suspect, listing)
 }
 
-/// The same, by a look at the block of each size that would have the address.
+/// Whether the address is recorded as the suspect has it in a block of any size. Looks at the
+/// block of each size that would have the address.
 fn holds_around(suspect: &Suspect, listing: &Listing) -> bool
     requires { AreSoundRows (rows_of listing.now) }
     ensures { result ≡ is_owner_in (rows_of listing.now) suspect.now.owner }

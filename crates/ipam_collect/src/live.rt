@@ -26,7 +26,7 @@ impl<'a> Model for Live<'a> {
 }
 
 impl<'a> Live<'a> {
-    /// Those of the list.
+    /// The handle ids of the list.
     pub(crate) fn of(alloc: Global, list: &'a [Text]) -> Result<Live<'a>, AllocError>
         ensures { IfOk result (λ live. live ≡ list.now) }
     {

@@ -94,7 +94,7 @@ impl Suspect {
         Freeing::new(self.block, Picks::Stamped { ordinal, stamp }, left)
     }
 
-    /// What is told of the address, with whether it was freed.
+    /// The item of the address: its handle, its stamp and whether it was freed.
     pub(crate) fn into_item(self, freed: bool) -> Item
         ensures address { result.address ≡ self.owner.address }
         ensures handle { result.handle ≡ self.owner.handle }

@@ -10,8 +10,8 @@ use std::collections::VecDeque;
 use std::marker::Model;
 use std::mem;
 
-/// What is told of the leaks that are done with, and the leaks that are left, the first of which is
-/// being freed. There is memory to tell of them all.
+/// The items of the leaks that are done with, and the leaks that are left, the first of which is
+/// being freed. There is memory for the items of all.
 pub struct Tally {
     items: Vec<Item>,
     left: VecDeque<Suspect>,
@@ -38,7 +38,7 @@ impl Model for Tally {
 }
 
 impl Tally {
-    /// All of the leaks are left.
+    /// A tally of which all leaks are left.
     pub(crate) fn new(alloc: Global, leaks: Seq<Suspect>) -> Result<Tally, AllocError>
         ensures { IfOk result (λ t. t ≡ ([], leaks)) }
     {
@@ -63,7 +63,7 @@ impl Tally {
         }
     }
 
-    /// What is told of all. Takes no memory.
+    /// The items of all leaks, once none is left. Takes no memory.
     pub(crate) fn take_items(&mut self) -> Seq<Item>
         requires { self.old.1 ≡ [] }
         ensures { result ≡ self.old.0 }

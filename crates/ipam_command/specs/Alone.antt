@@ -1,4 +1,4 @@
--- What a CNI call is told whose request runs by itself over rows that were opened.
+-- The reply to a CNI call whose request runs by itself over rows that were opened.
 use Rattle.std.specs.Prelude.{◌≡◌, ◌≢◌, ℕ, List, [], ◌∷◌, Option, Some, Ok}
 use Rattle.ipam_addr.specs.declared.address.Family.{Family}
 use Rattle.ipam_records.specs.Datastore.{Datastore}
@@ -25,24 +25,24 @@ use Rattle.cni_asks.specs.declared.replies.CniReply.TheVariants.{Success, Failur
 use Rattle.cni_asks.specs.GcAsking.{probe_of}
 use Rattle.ipam_command.specs.Replies.{begun_by, reply_to}
 
--- what a request is told that runs by itself
+-- the reply to a request that runs by itself
 abbrev pub reply_alone : Datastore → Request → Option CniReply
 reply_alone store asked = reply_to asked (alone_over (opened store) asked).0
 
--- ---- no call is told to try again later
+-- ---- no reply asks to try again later
 
 abbrev pub SaysTryAgain : Option CniReply → Type 0
 SaysTryAgain (Some (Failure TryAgain details)) = Unit {0}
 SaysTryAgain _ = ⊥
 
--- Nobody else runs, so no race is lost, and no call is told to try again later.
+-- Nobody else runs, so no race is lost, and no reply asks to try again later.
 abbrev pub NoTryAgainLaw : Type 0
 NoTryAgainLaw =
     (texts : Texts) (store : Datastore) (asked : Request) → OpensAs texts store → IsSoundRequest asked
     → ¬ (SaysTryAgain (reply_alone store asked))
 
--- The same of a call as it is read, with no premise on its request: whatever request the environment and
--- standard input begin.
+-- No reply asks to try again later to a call as it is read, with no premise on its request: whatever
+-- request the environment and standard input begin.
 abbrev pub CallNeverAgainLaw : Type 0
 CallNeverAgainLaw =
     (env : List Pair) (stdin : List ℕ) (look : Look) (asked : Request) (version : Version) (texts : Texts) (store : Datastore)

@@ -20,9 +20,9 @@ use Rattle.cni_asks.specs.declared.replies.CniReply.TheVariants.{Addresses, Succ
 use Rattle.cni_asks.specs.Replying.{family_name, told}
 use Rattle.ipam_command.specs.Replies.{ComesTo, StatusAndText, begun_by}
 
--- ---- what the function of the records is told as
+-- ---- the replies by the function of the records
 
--- the failures that are told alike whatever was asked
+-- the failures that have one reply whatever was asked
 abbrev pub plain_failure : PlainAnswer → Option CniReply
 plain_failure (Lacks family) = Some (Failure NoAddress (family_name family))
 plain_failure (KnowsNoPool name) = Some (Failure NoSuchPool name)
@@ -70,8 +70,8 @@ plain_reply (Probe request) found = plain_reply_to_status found
 
 -- ---- a whole call
 
--- The reply is what the function of the records is told as, and the rows, where they are told, are those
--- of a datastore with the records that it leaves.
+-- The reply is that of the function of the records, and the rows, where they are known, are those of a
+-- datastore with the records that it leaves.
 pub record IsByRecords (asked : Request) (version : Version) (result : PlainResult) (new : Option (List RowText)) (reply : StatusAndText) : Type 0 where
   pub is_told : CniReply
   pub answer : plain_reply asked result.0 ≡ Some is_told

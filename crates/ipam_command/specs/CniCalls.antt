@@ -61,7 +61,7 @@ pub record IsReplySaid (reply : StatusAndText) (old new : Outside) (status : ℕ
 
 -- ---- any call
 
--- What is said is the reply, and the rows are those, of the function of the records.
+-- The reply is written that the function of the records gives, and the rows are those that it leaves.
 pub record IsSaidByRecords (asked : Request) (version : Version) (result : PlainResult) (old new : Outside) (status : ℕ) : Type 0 where
   pub reply : StatusAndText
   pub by_records : IsByRecords asked version result new.rows reply
@@ -77,7 +77,7 @@ IsCallByRecords env ending old new status =
 
 -- ---- no reply asks to try again later
 
--- What was said is a reply, and not that the call may be made again later.
+-- A reply was written that does not ask to make the call again later.
 pub record IsSaidForGood (version : Version) (old new : Outside) (status : ℕ) : Type 0 where
   pub reply : CniReply
   pub said : IsReplySaid (told version reply) old new status

@@ -119,9 +119,9 @@ pub record DoesApply (old new : Outside) (status : ℕ) : Type 0 where
 
 -- ---- no word, or `cni`
 
--- The call of this environment is made over the keeper's rows. Where it goes well it is never said that
--- the call may be made again later. Where it goes well and the rows have spare, what it writes and leaves is as the function of the records says, what GC leaves is known by its
--- owners, and STATUS tells of the ADD that asks for the same.
+-- The call of this environment is made over the keeper's rows. Where it goes well its reply never asks to make the
+-- call again later. Where it goes well and the rows have spare, what it writes and leaves is as the function of the
+-- records says, what GC leaves is known owners, and STATUS tells of the ADD that asks for the same.
 pub record DoesCni (same : Type 0) (env : List Pair) (old new : Outside) (status : ℕ) : Type 0 where
   pub ending : CniEnd
   pub went : cni.CniCallWent same env ending old new

@@ -35,7 +35,7 @@ IsSpared call a = (is_in_scope (Some (call.network, call.node)) a ≡ false) ⊎
 abbrev pub left_by : CniGc → Datastore → Datastore
 left_by call store = (alone_over (opened store) (Collect (collect_of call))).1
 
--- the rows, where they are told, are its texts, and its owners are exactly those that are spared
+-- the rows, where they are known, are its texts, and its owners are exactly those that are spared
 pub record LeavesSpared (store : Datastore) (call : CniGc) (new : Option (List RowText)) : Type 0 where
   pub texts : IfSome new (λ after. AreTextsOf after (left_by call store))
   pub owners : (o : Owner) → Owns (left_by call store) o ↔ ((a : Allocation) × Recorded store o a × IsSpared call a)

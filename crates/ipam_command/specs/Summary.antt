@@ -59,7 +59,7 @@ abbrev pub freed_in : Option Answer → ℕ
 freed_in (Some told) = freed_of told
 freed_in None = 0
 
--- the same of the answer that the newest entry has
+-- how many addresses the collection freed that the newest entry answers, if it answers one
 abbrev pub freed_count : List Entry → ℕ
 freed_count [] = 0
 freed_count (new ∷ history) = freed_in (answer_told new)

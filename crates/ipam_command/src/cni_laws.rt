@@ -1,14 +1,15 @@
-//! What CNI calls are told that run by themselves. Each function does nothing: its contract is the law.
+//! The replies to CNI calls that run by themselves. Each function does nothing: its contract is the
+//! law.
 ghost use Rattle.ipam_command.specs.Alone.{CallNeverAgainLaw, NoTryAgainLaw, StatusLaw};
 ghost use Rattle.ipam_command.specs.ByRecords.{ByRecordsLaw};
 ghost use Rattle.ipam_command.specs.Spare.{GcLeavesLaw, StatusAddsLaw};
 
-/// No call is told to try again later, code 11: nobody else runs.
+/// No reply has code 11, which asks to try again later: nobody else runs.
 pub fn no_call_is_told_to_try_again()
     ensures { NoTryAgainLaw }
 {}
 
-/// The same of a call as it is read, whatever request its environment and standard input begin.
+/// No reply has code 11, whatever request the environment and standard input of a call begin.
 pub fn no_call_that_is_read_is_told_to_try_again()
     ensures { CallNeverAgainLaw }
 {}

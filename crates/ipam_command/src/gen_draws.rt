@@ -18,7 +18,7 @@ pub(crate) struct Draws {
 }
 
 impl Draws {
-    /// Nothing was drawn.
+    /// Draws of which none was made yet.
     pub(crate) fn new() -> Draws
         ensures { result.x ≡ 1 }
     {

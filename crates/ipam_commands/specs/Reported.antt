@@ -27,7 +27,7 @@ abbrev pub excess_of : Datastore → Record → List Excess
 excess_of store (record_of.Handle h) = filter_map (excess_at store h.id) h.counts
 excess_of store _ = []
 
--- those of the rows, by the handle's id and then by the block
+-- the counts of the rows that are too high, by the handle's id and then by the block
 abbrev pub excess_in : Datastore → List StoredRecord → List Excess
 excess_in store = flat_map (λ row. excess_of store row.1)
 

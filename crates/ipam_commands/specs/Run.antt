@@ -17,7 +17,7 @@ pub record EndsSo (code : ℕ) (so : Status → Type 0) : Type 0 where
 abbrev pub unknown_line : List ℕ
 unknown_line = codes "unknown words\n"
 
--- the report is that of the datastore as which the rows that are told open
+-- the report is that of the datastore as which the known rows open
 pub record IsReportTold (told : Option (List RowText)) (report : Report) : Type 0 where
   pub rows : List RowText
   pub store : Datastore

@@ -12,7 +12,7 @@ use ipam_store::Store;
 use ipam_text::Text;
 use std::alloc::{AllocError, Global};
 
-/// Those that are pending deletion.
+/// The affinities that are pending deletion: the node and the block of each.
 pub(crate) fn stale(alloc: Global, store: &Store) -> Result<Vec<(Text, Cidr)>, AllocError>
     ensures { IfOk result (λ found. found.items ≡ stale_in (rows_of_kind kind.Affinity store.now.store)) }
 {

@@ -1,4 +1,4 @@
-//! `get` and `get KIND`: the rows are told.
+//! `get` and `get KIND`: writes the rows.
 ghost use Rattle.std.specs.Prelude.{◌≡◌};
 ghost use Rattle.ipam_commands.specs.Telling.{ReportsRows, Writes};
 ghost use Rattle.ipam_show.specs.Rows.{rows_text};

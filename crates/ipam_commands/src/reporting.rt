@@ -13,24 +13,24 @@ use ipam_io::Sink;
 use ipam_keeper::Keeper;
 use std::alloc::AllocError;
 
-/// What is told of rows, with what takes the memory for its text. What is generic over it knows nothing of it,
-/// and so can't state by itself that it found none.
+/// A text about rows, with what takes the memory for it. What is generic over it knows nothing of it, and so
+/// can't state by itself that it found none.
 pub(crate) trait TellsRows {
     /// It found no memory.
     ghost wants: { Self → Type 0 };
 
-    /// What is told of these rows, which open as this datastore.
+    /// The text about these rows, which open as this datastore.
     ghost says: { Self → List RowText → Datastore → List ℕ };
 
-    /// The text of what is told.
+    /// Makes the text about the rows that were loaded.
     fn text(&self, loaded: &Loaded) -> Result<String, AllocError>
         requires { OpensAs (texts_loaded loaded.now.rows.items) loaded.now.store.store }
         ensures said { IfOk result (λ text. string_bytes text ≡ says self.now loaded.now.rows.items loaded.now.store.store) }
         ensures wants { OnErr result (wants self.now) };
 }
 
-/// Tells this of the keeper's rows, or why they were not opened. No row changes. It ends for want of memory only
-/// where opening the rows found none, or the line on broken rows, or the text that is told.
+/// Writes this text about the keeper's rows, or why they were not opened. No row changes. It ends for want of
+/// memory only where opening the rows found none, or the line on broken rows, or the text.
 pub(crate) fn tell_rows<A: OpensRows + MakesBroken + Copy + Drop, T: TellsRows, K: Sink, D: Keeper>(
     alloc: A,
     tells: &T,

@@ -13,6 +13,12 @@ pub record IsEachServed (t t' a a' : ℕ) : Type 0 where
   pub taken : t' ≡ raised count t
   pub attended : a' ≡ raised count a
 
+-- each connection that was taken from those that were left was kept
+pub record IsEachKept (t t' k k' : ℕ) : Type 0 where
+  pub count : ℕ
+  pub taken : t' ≡ raised count t
+  pub kept : k' ≡ raised count k
+
 -- a connection was handed over, or served by who accepted it
 abbrev pub IsOneHandedOver : (handed handed' attended attended' : ℕ) → Type 0
 IsOneHandedOver handed handed' attended attended' =

@@ -41,7 +41,8 @@ FindsAlarmAtEnd NoMemory found found' = found' ≡ found
 FindsAlarmAtEnd (BrokenRows number about) found found' = found' ≡ found
 FindsAlarmAtEnd ListenFault found found' = found' ≡ found
 
--- the same for the whole daemon: where its rows are not opened, and the keeper comes back, it looks at no alarm
+-- how many looks of the whole daemon found the alarm raised: where its rows are not opened, and the keeper
+-- comes back, it looks at no alarm
 abbrev pub FindsAlarm : {D : Type 0} → Option D → Served → (found found' : ℕ) → Type 0
 FindsAlarm (Some keeper) served found found' = found' ≡ found
 FindsAlarm None served found found' = FindsAlarmAtEnd served found found'

@@ -52,7 +52,7 @@ impl Alarm {
         Ok((Alarm { raised, raises: 0 }, watch))
     }
 
-    /// Another part of the same alarm, by which it was not raised.
+    /// A further part of the alarm, which has not raised it. Fails with `AllocError`.
     pub(crate) fn another(&self) -> Result<Alarm, AllocError>
         ensures { IfOk result (λ other. other.raises ≡ 0) }
     {

@@ -28,8 +28,9 @@ impl<P: Peer> SessionGate for Asking<P> {
     // it found somebody there
     ghost admits = { λ before _ _ after. P.gone (peer_of after.gate) ≡ P.gone (peer_of before.gate) };
 
-    /// At a turn it looks once, and stops exactly where nobody is there. Before a line it goes on.
-    fn pass(&mut self, point: Point, _session: &Pass) -> Passed
+    /// At a turn it looks once, and stops exactly where nobody is there. Before a line it goes on, and the session may
+    /// be left then if nothing runs in it: no reply depends on anything else that a session has.
+    fn pass(&mut self, point: Point, session: &Pass) -> Passed
         ensures looked { P.looks (peer_of self.new.gate) ≡ count_of_turns point (P.looks (peer_of self.old.gate)) }
         ensures before_line { point ≡ Point.Line → result ≡ Passed.Go }
         ensures stop { OnStop result (Rose (P.gone (peer_of self.old.gate)) (P.gone (peer_of self.new.gate))) }
@@ -41,6 +42,7 @@ impl<P: Peer> SessionGate for Asking<P> {
         match point {
             Point::Line => {
                 self.lines = self.lines.saturating_add(1);
+                self.gate.set_idle(!session.running());
                 Passed::Go
             }
             Point::Turn => {

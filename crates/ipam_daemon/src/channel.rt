@@ -3,6 +3,7 @@ ghost use Rattle.std.specs.Prelude.{◌≡◌, true};
 ghost use Rattle.ipam_io.specs.Counts.{next_count};
 
 use crate::handing::{Hands, Takes};
+use crate::leaving::TakesNow;
 use crossbeam_channel::{Receiver, Sender};
 use std::alloc::{AllocError, Global};
 use std::sync::Wait;
@@ -48,7 +49,7 @@ pub(crate) fn channel<T: Drop>(
 }
 
 impl<T: Drop> HandingEnd<T> {
-    /// Another end of the same channel, to which nothing was handed.
+    /// A further end that hands items to this channel, and has handed none yet. Fails with `AllocError`.
     pub(crate) fn another(&self) -> Result<HandingEnd<T>, AllocError> {
         Ok(HandingEnd {
             to: self.to.clone()?,
@@ -74,7 +75,7 @@ impl<T: Drop> HandingEnd<T> {
 }
 
 impl<T: Drop> TakingEnd<T> {
-    /// Another end of the same channel, from which nothing was taken.
+    /// A further end that takes items from this channel, and has taken none yet. Fails with `AllocError`.
     pub(crate) fn another(&self) -> Result<TakingEnd<T>, AllocError> {
         Ok(TakingEnd {
             from: self.from.clone()?,
@@ -116,6 +117,20 @@ impl<T: Drop> Takes<T> for TakingEnd<T> {
                 self.is_over = true;
                 None
             }
+        }
+    }
+}
+
+impl<T: Drop> TakesNow<T> for TakingEnd<T> {
+    ghost taken = { λ end. end.taken };
+
+    fn take_now<R: Wait>(&mut self, rt: &R) -> Option<T> {
+        match self.from.try_recv(rt) {
+            Ok(item) => {
+                self.taken = self.taken.saturating_add(1);
+                Some(item)
+            }
+            Err(_) => None,
         }
     }
 }

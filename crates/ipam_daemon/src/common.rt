@@ -3,13 +3,15 @@ ghost use Rattle.std.specs.Prelude.{◌≡◌, IfOk};
 ghost use Rattle.std.specs.Arc.{arc_value};
 
 use crate::alarm::Alarm;
+use crate::leaving::LeavingEnd;
 use crate::notes::Notes;
 use ipam_serve::{Opening, Queue};
+use ipam_socket::Connection;
 use std::alloc::{AllocError, Global};
 use std::sync::Arc;
 
-/// What sessions are served over, their opening, the queue of their requests, and the alarm and the notes, which each
-/// worker has a part of.
+/// What sessions are served over, their opening, the queue of their requests, and the alarm, the notes and what
+/// connections are left by, which each worker has a part of.
 #[derive(Drop)]
 pub(crate) struct Common<S> {
     pub(crate) shared: Arc<S, Global>,
@@ -17,6 +19,7 @@ pub(crate) struct Common<S> {
     pub(crate) queue: Arc<Queue, Global>,
     pub(crate) alarm: Alarm,
     pub(crate) notes: Notes,
+    pub(crate) leaving: LeavingEnd<Connection>,
 }
 
 impl<S: Drop> Common<S> {
@@ -27,6 +30,7 @@ impl<S: Drop> Common<S> {
         opening: Opening,
         alarm: Alarm,
         notes: Notes,
+        leaving: LeavingEnd<Connection>,
     ) -> Result<Common<S>, AllocError>
         ensures { IfOk result (λ common. arc_value common.shared ≡ shared) }
     {
@@ -36,10 +40,11 @@ impl<S: Drop> Common<S> {
             queue: Arc::new(alloc, Queue::new())?,
             alarm,
             notes,
+            leaving,
         })
     }
 
-    /// Another part of the same.
+    /// A further handle to what the workers share. Fails with `AllocError`.
     pub(crate) fn another(&self) -> Result<Common<S>, AllocError>
         ensures { IfOk result (λ other. arc_value other.shared ≡ arc_value self.now.shared) }
     {
@@ -49,6 +54,7 @@ impl<S: Drop> Common<S> {
             queue: Arc::try_clone(&self.queue)?,
             alarm: self.alarm.another()?,
             notes: self.notes.another()?,
+            leaving: self.leaving.another()?,
         })
     }
 }

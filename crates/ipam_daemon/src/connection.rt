@@ -13,7 +13,7 @@ use crate::desk::Desk;
 use crate::serves::Serves;
 use ipam_io::Link;
 use ipam_serve::{SessionEnd, SessionGate};
-use ipam_socket::{Limits, PeerGate, SocketLink, Stream, StreamPeer};
+use ipam_socket::{Connection, Limits, PeerGate, SocketLink, StreamPeer};
 use std::sync::Wait;
 use std::time::Clock;
 
@@ -63,19 +63,22 @@ pub(crate) struct Sockets<C> {
     pub(crate) limits: Limits,
 }
 
-impl<'a, C: Clock + Copy> Opens<&'a Stream, SocketLink<C, &'a Stream>, Asking<StreamPeer<'a>>>
-    for Sockets<C> {
-    ghost is_link = { λ stream link. connection_of link ≡ stream };
+impl<'a, C: Clock + Copy> Opens<
+    &'a Connection,
+    SocketLink<C, &'a Connection>,
+    Asking<StreamPeer<'a>>,
+> for Sockets<C> {
+    ghost is_link = { λ connection link. connection_of link ≡ connection };
 
-    ghost is_gate = { λ stream gate. whose (peer_of gate.gate) ≡ stream.now };
+    ghost is_gate = { λ connection gate. whose (peer_of gate.gate) ≡ connection.now };
 
-    fn link(&self, stream: &'a Stream) -> SocketLink<C, &'a Stream> {
-        SocketLink::of_session(self.clock, stream, self.limits)
+    fn link(&self, connection: &'a Connection) -> SocketLink<C, &'a Connection> {
+        SocketLink::of_session(self.clock, connection, self.limits)
     }
 
-    fn gate(&self, stream: &'a Stream) -> Asking<StreamPeer<'a>> {
+    fn gate(&self, connection: &'a Connection) -> Asking<StreamPeer<'a>> {
         Asking {
-            gate: PeerGate::new(StreamPeer::new(stream)),
+            gate: PeerGate::new(StreamPeer::new(connection)),
             lines: 0,
             turns: 0,
         }

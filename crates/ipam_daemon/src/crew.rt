@@ -6,7 +6,7 @@ ghost use Rattle.ipam_daemon.specs.Crews.{IsHired};
 use crate::channel::TakingEnd;
 use crate::handing::{Attends, work};
 use crate::host::Host;
-use ipam_socket::Stream;
+use ipam_socket::Connection;
 use std::alloc::AllocError;
 use std::thread;
 use std::thread::JoinHandle;
@@ -15,13 +15,13 @@ use std::thread::JoinHandle;
 #[derive(Drop)]
 pub(crate) struct Crew<'a, R> {
     pub(crate) rt: &'a R,
-    pub(crate) from: &'a TakingEnd<Stream>,
+    pub(crate) from: &'a TakingEnd<Connection>,
     pub(crate) threads: Vec<JoinHandle<()>>,
     pub(crate) faults: u64,
 }
 
 /// Starts a thread in which the worker works. False where the system makes no thread.
-pub(crate) fn hire<R: Host, W: Attends<Stream> + Send + Drop + 'static>(
+pub(crate) fn hire<R: Host, W: Attends<Connection> + Send + Drop + 'static>(
     crew: &mut Crew<'_, R>,
     worker: W,
 ) -> Result<bool, AllocError>

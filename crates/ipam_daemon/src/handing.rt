@@ -2,14 +2,18 @@
 ghost use Rattle.std.specs.Prelude.{◌≡◌, ℕ, OnSome, IfNone, OnOk, OnErr};
 ghost use Rattle.std.specs.Bool.{OnTrue, OnFalse};
 ghost use Rattle.ipam_io.specs.Counts.{Rose, next_count};
-ghost use Rattle.ipam_daemon.specs.Handing.{IsEachServed, IsHandedOver, IsOneHandedOver, raised};
+ghost use Rattle.ipam_daemon.specs.Handing.{IsEachKept, IsEachServed, IsHandedOver, IsOneHandedOver, raised};
 
+use crate::leaving::TakesNow;
 use crate::notes::Tells;
 use crate::pausing::Pauses;
 use ipam_socket::{Came, Failed, Listens};
 use log::Log;
 use std::sync::Wait;
 use std::time::Clock;
+
+/// How many connections that were left may wait to be kept. Further ones are closed.
+pub(crate) const MOST_LEFT: usize = 512;
 
 /// Who serves connections, each to its end, or writes notes.
 pub trait Attends<T> {
@@ -83,14 +87,16 @@ pub fn work<R: Wait + Log + Clock, T, Q: Takes<T>, W: Attends<T>>(
 }
 
 /// Accepts connections, one after the other, and hands each over, or has it served here where nobody can take it.
-/// Where accepting fails for a cause that passes, it pauses, by the clock of this runtime. It ends where a look before
-/// a try finds the alarm raised, or accepting fails for good, and nowhere else.
-#[tactic(auto, using(crate::proofs::Counts::handed_none, crate::proofs::Counts::handed_more, crate::proofs::Counts::handed_still))]
+/// Once it is woken, it has those kept that were left. Where accepting fails for a cause that passes, it pauses, by the
+/// clock of this runtime. It ends where a look before a try finds the alarm raised, or accepting fails for good, and
+/// nowhere else.
+#[tactic(auto, using(crate::proofs::Counts::handed_none, crate::proofs::Counts::handed_more, crate::proofs::Counts::handed_still, crate::proofs::Counts::kept_none, crate::proofs::Counts::kept_still, crate::proofs::Counts::kept_on))]
 pub fn hand_over_all<
     R: Wait + Log + Clock,
     T,
     L: Listens<T>,
     H: Hands<T>,
+    B: TakesNow<T>,
     W: Attends<T>,
     A: Watches,
     N: Tells,
@@ -98,12 +104,14 @@ pub fn hand_over_all<
     rt: &R,
     listener: &mut L,
     to: &mut H,
+    left: &mut B,
     own: &mut W,
     watch: &mut A,
     notes: &mut N,
 ) -> Result<(), Failed>
     ensures each { IsHandedOver (L.accepted listener.old) (L.accepted listener.new)
         (H.handed to.old) (H.handed to.new) (W.attended own.old) (W.attended own.new) }
+    ensures kept { IsEachKept (B.taken left.old) (B.taken left.new) (L.kept listener.old) (L.kept listener.new) }
     ensures alarm { OnOk result (Rose (A.found watch.old) (A.found watch.new)) }
     ensures no_alarm { OnErr result (A.found watch.new ≡ A.found watch.old) }
     ensures fault { OnErr result (Rose (L.faults listener.old) (L.faults listener.new)) }
@@ -120,10 +128,26 @@ pub fn hand_over_all<
                 hand_one(rt, connection, to, own);
             }
             Came::Nobody => pauses = Pauses::new(),
+            Came::Woken => keep_left(rt, left, listener),
             Came::Passing(cause) => pauses.wait_out(rt, notes, cause),
         }
     }
     unreachable!()
+}
+
+/// Has the connections kept that were left, up to so many: those that were left since have it woken again.
+#[tactic(auto, using(crate::proofs::Counts::kept_none, crate::proofs::Counts::kept_more, crate::proofs::Counts::kept_all))]
+fn keep_left<R: Wait, T, B: TakesNow<T>, L: Listens<T>>(rt: &R, left: &mut B, listener: &mut L)
+    ensures kept { IsEachKept (B.taken left.old) (B.taken left.new) (L.kept listener.old) (L.kept listener.new) }
+    ensures accepted { L.accepted listener.new ≡ L.accepted listener.old }
+    ensures faults { L.faults listener.new ≡ L.faults listener.old }
+{
+    for _ in 0..MOST_LEFT {
+        match left.take_now(rt) {
+            Some(connection) => listener.keep(connection),
+            None => return,
+        }
+    }
 }
 
 /// Hands the connection over, or has it served here.

@@ -35,7 +35,7 @@ pub trait Tells {
     fn tell<R: Wait + Log>(&mut self, rt: &R, note: Note);
 }
 
-/// A part of what notes are told by: they wait for the scribe. One that finds no room is dropped, and counted.
+/// Hands notes to the scribe, without waiting for it. A note that finds no room is dropped, and counted.
 #[derive(Drop)]
 pub(crate) struct Notes {
     to: HandingEnd<Note>,
@@ -63,7 +63,7 @@ impl Notes {
         Ok((Notes { to, dropped }, from, scribe))
     }
 
-    /// Another part of the same.
+    /// A further handle by which notes go to this scribe. Fails with `AllocError`.
     pub(crate) fn another(&self) -> Result<Notes, AllocError> {
         Ok(Notes {
             to: self.to.another()?,

@@ -19,7 +19,7 @@ const MOST_MILLIS: u64 = 1_000;
 #[derive(Clone, Copy)]
 pub struct Pauses {
     millis: u64,
-    // whether the cause of the first one was told
+    // whether the cause of the first one was written
     is_told: bool,
 }
 
@@ -46,7 +46,8 @@ impl Pauses {
         pause
     }
 
-    /// A connection was accepted: the next pause is short again. What was told is not told again.
+    /// Makes the next pause a short one again, since a connection was accepted. A cause that was
+    /// written once is not written again.
     pub fn shorten(&mut self)
         ensures first { self.new.millis ≡ 10 }
         ensures told { self.new.is_told ≡ self.old.is_told }

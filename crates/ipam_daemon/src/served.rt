@@ -62,7 +62,8 @@ fn tell<K: Sink>(sink: &mut K, line: &str, own: u8) -> u8
     }
 }
 
-/// The same, where there was memory for the line.
+/// Writes the line, where there was memory for it, and gives its status, or that of want of
+/// memory.
 fn tell_made<K: Sink>(sink: &mut K, line: Result<String, AllocError>, own: u8) -> u8
     ensures written { (said : List ℕ) → IfOk line (λ made. string_bytes made ≡ said)
         → WritesLine (K.written sink.old) (K.written sink.new)

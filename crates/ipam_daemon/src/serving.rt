@@ -5,15 +5,17 @@ ghost use Rattle.ipam_daemon.specs.Opening.{IsEnd};
 ghost use Rattle.ipam_daemon.specs.Served.{FindsAlarm, ListenFaults, FindsAlarmAtEnd};
 
 use crate::alarm::Alarm;
+use crate::channel::TakingEnd;
 use crate::handing::Watches;
 use crate::host::Host;
+use crate::leaving::LeavingEnd;
 use crate::opening::open_kept;
 use crate::served::Served;
 use crate::staff::engage;
 use ipam_serve::Opening;
 use ipam_shared::{Keeper, Kept};
-use ipam_socket::{Address, Failed, Limits, Listens, SocketListener, Stream};
-use std::alloc::Global;
+use ipam_socket::{Address, Connection, Failed, Limits, Listens, SocketListener};
+use std::alloc::{AllocError, Global};
 use std::fs::Files;
 use std::io;
 use std::net::{Net, TcpListener, TcpStream};
@@ -42,8 +44,8 @@ pub fn serve<
     let Ok((alarm, mut watch)) = Alarm::new(alloc) else {
         return (Served::NoMemory, Some(keeper), None);
     };
-    let mut listener = SocketListener::new(&rt, alloc, Address::of(address));
     let limits = Limits::of_session();
+    let mut listener = SocketListener::new(&rt, alloc, Address::of(address), limits);
     let (served, keeper) = serve_by(
         rt,
         alloc,
@@ -62,7 +64,7 @@ pub fn serve<
 /// failed. After the rows were opened it ends by the keeper exactly where the watch, which is to be that of this alarm,
 /// found the alarm raised.
 #[tactic(auto, using(crate::proofs::Ended::served_out, crate::proofs::Ended::unopened))]
-pub fn serve_by<R: Host, D: Keeper + Send + Drop + 'static, L: Listens<Stream>, A: Watches>(
+pub fn serve_by<R: Host, D: Keeper + Send + Drop + 'static, L: Listens<Connection>, A: Watches>(
     rt: R,
     alloc: Global,
     keeper: D,
@@ -97,7 +99,7 @@ pub fn serve_by<R: Host, D: Keeper + Send + Drop + 'static, L: Listens<Stream>, 
 }
 
 /// Serves sessions at the listener.
-fn serve_at<R: Host, D: Keeper + Send + Drop + 'static, L: Listens<Stream>, A: Watches>(
+fn serve_at<R: Host, D: Keeper + Send + Drop + 'static, L: Listens<Connection>, A: Watches>(
     rt: R,
     alloc: Global,
     kept: Kept<D>,
@@ -113,11 +115,24 @@ fn serve_at<R: Host, D: Keeper + Send + Drop + 'static, L: Listens<Stream>, A: W
     ensures listening { ListenFaults result (L.faults listener.old) (L.faults listener.new) }
     ensures alarmed { FindsAlarmAtEnd result (A.found watch.old) (A.found watch.new) }
 {
-    match engage(rt, alloc, kept, opening, workers, limits, alarm) {
-        Ok(mut staff) => match staff.accept_all(&rt, listener, watch) {
+    let Ok((leaving, mut left)) = leaving_at(alloc, listener) else {
+        drop((kept, opening));
+        return Served::NoMemory;
+    };
+    match engage(rt, alloc, kept, opening, workers, limits, alarm, leaving) {
+        Ok(mut staff) => match staff.accept_all(&rt, listener, &mut left, watch) {
             Ok(()) => Served::KeeperFault,
             Err(Failed) => Served::ListenFault,
         },
         Err(_) => Served::NoMemory,
     }
+}
+
+/// What connections are left by that the listener accepted, and where they are taken from to be kept.
+fn leaving_at<L: Listens<Connection>>(
+    alloc: Global,
+    listener: &L,
+) -> Result<(LeavingEnd<Connection>, TakingEnd<Connection>), AllocError> {
+    let bell = listener.bell()?;
+    LeavingEnd::new(alloc, bell)
 }

@@ -5,20 +5,21 @@ ghost use Rattle.std.specs.Vec.{vec_len};
 ghost use Rattle.ipam_io.specs.Counts.{Rose};
 ghost use Rattle.ipam_shared.specs.Passes.{IsNewlyKept, runs_in};
 ghost use Rattle.ipam_daemon.specs.Crews.{IsEngaged};
-ghost use Rattle.ipam_daemon.specs.Handing.{IsHandedOver};
+ghost use Rattle.ipam_daemon.specs.Handing.{IsEachKept, IsHandedOver};
 
 use crate::alarm::Alarm;
-use crate::channel::{HandingEnd, channel};
+use crate::channel::{HandingEnd, TakingEnd, channel};
 use crate::common::Common;
 use crate::crew::{Crew, hire, start};
 use crate::handing::{Watches, hand_over_all};
 use crate::host::Host;
+use crate::leaving::LeavingEnd;
 use crate::notes::{Note, Notes, Tells};
 use crate::serves::Serves;
 use crate::worker::Worker;
 use ipam_serve::Opening;
 use ipam_shared::{Keeper, Kept, Pass, Shared};
-use ipam_socket::{Failed, Limits, Listens, Stream};
+use ipam_socket::{Connection, Failed, Limits, Listens};
 use log::Log;
 use std::alloc::{AllocError, Global};
 use std::sync::Wait;
@@ -31,7 +32,7 @@ const MOST_WAITING: usize = 16;
 /// Workers in threads of their own, and one more, who serves where none of them was started.
 #[derive(Drop)]
 pub struct Staff<S: Serves, R> {
-    to: HandingEnd<Stream>,
+    to: HandingEnd<Connection>,
     threads: Vec<JoinHandle<()>>,
     thread_faults: u64,
     own: Worker<S, R>,
@@ -39,17 +40,19 @@ pub struct Staff<S: Serves, R> {
 }
 
 impl<S: Serves + Drop, C: Clock + Copy + Drop> Staff<S, C> {
-    /// Has the connections of the listener served, one by each worker at a time, until accepting fails, or the watch
-    /// finds that a session ended since the keeper failed. It doesn't wait for the sessions that are served by then.
-    /// The latter shows between two tries to accept a connection.
-    pub(crate) fn accept_all<R: Wait + Log + Clock, L: Listens<Stream>, A: Watches>(
+    /// Has the connections of the listener served, one by each worker at a time, and kept where their sessions were
+    /// left, until accepting fails, or the watch finds that a session ended since the keeper failed. That shows between
+    /// two tries to accept a connection. It doesn't wait for the sessions that are served by then.
+    pub(crate) fn accept_all<R: Wait + Log + Clock, L: Listens<Connection>, A: Watches>(
         &mut self,
         rt: &R,
         listener: &mut L,
+        left: &mut TakingEnd<Connection>,
         watch: &mut A,
     ) -> Result<(), Failed>
         ensures each { IsHandedOver (L.accepted listener.old) (L.accepted listener.new)
             self.old.to.handed self.new.to.handed self.old.own.desk.sessions self.new.own.desk.sessions }
+        ensures kept { IsEachKept left.old.taken left.new.taken (L.kept listener.old) (L.kept listener.new) }
         ensures alarm { OnOk result (Rose (A.found watch.old) (A.found watch.new)) }
         ensures no_alarm { OnErr result (A.found watch.new ≡ A.found watch.old) }
         ensures fault { OnErr result (Rose (L.faults listener.old) (L.faults listener.new)) }
@@ -59,6 +62,7 @@ impl<S: Serves + Drop, C: Clock + Copy + Drop> Staff<S, C> {
             rt,
             listener,
             &mut self.to,
+            left,
             &mut self.own,
             watch,
             &mut self.notes,
@@ -66,9 +70,9 @@ impl<S: Serves + Drop, C: Clock + Copy + Drop> Staff<S, C> {
     }
 }
 
-/// So many workers over this opening of the cluster, or fewer where the system makes no more threads or the cluster has
-/// no more slots. Each has a part of the alarm. One more thread, if the system makes it, writes what they tell, and
-/// else they do.
+/// Makes so many workers over this opening of the cluster, or fewer where the system makes no more threads or the
+/// cluster has no more slots. Each has a part of the alarm, and of what connections are left by. One more thread, if the
+/// system makes it, writes their notes, and else they do.
 pub fn engage<R: Host, D: Keeper + Send + Drop + 'static>(
     rt: R,
     alloc: Global,
@@ -77,6 +81,7 @@ pub fn engage<R: Host, D: Keeper + Send + Drop + 'static>(
     workers: u8,
     limits: Limits,
     alarm: Alarm,
+    leaving: LeavingEnd<Connection>,
 ) -> Result<Staff<Shared<D>, R>, AllocError>
     requires { IsNewlyKept D.rows D.settled kept }
     ensures engaged { IfOk result (λ staff. IsEngaged workers 0 (vec_len staff.threads) 0 staff.thread_faults staff.own.desk.pass) }
@@ -85,10 +90,13 @@ pub fn engage<R: Host, D: Keeper + Send + Drop + 'static>(
     let Ok((shared, pass)) = Shared::new(alloc, kept) else {
         return Err(AllocError);
     };
-    engage_over(rt, alloc, shared, opening, pass, workers, limits, alarm)
+    engage_over(
+        rt, alloc, shared, opening, pass, workers, limits, alarm, leaving,
+    )
 }
 
-/// The same, over what may be used by many threads.
+/// Makes so many workers over what many threads may use, or fewer where the system makes no more threads or there are
+/// no more slots.
 fn engage_over<R: Host, S: Serves + Send + Sync + Drop + 'static>(
     rt: R,
     alloc: Global,
@@ -98,6 +106,7 @@ fn engage_over<R: Host, S: Serves + Send + Sync + Drop + 'static>(
     workers: u8,
     limits: Limits,
     alarm: Alarm,
+    leaving: LeavingEnd<Connection>,
 ) -> Result<Staff<S, R>, AllocError>
     requires own { pass.lock ≡ S.id shared }
     requires first { pass.slot ≡ 0 }
@@ -106,7 +115,7 @@ fn engage_over<R: Host, S: Serves + Send + Sync + Drop + 'static>(
     ensures first { IfOk result (λ staff. staff.own.desk.pass.slot ≡ 0) }
 {
     let (mut notes, told, scribe) = Notes::new(alloc)?;
-    let common = Common::of(alloc, shared, opening, alarm, notes.another()?)?;
+    let common = Common::of(alloc, shared, opening, alarm, notes.another()?, leaving)?;
     let (to, from) = channel(alloc, MOST_WAITING)?;
     let mut crew = Crew {
         rt: &rt,

@@ -12,18 +12,20 @@ use crate::common::Common;
 use crate::connection::{Sockets, serve_connection};
 use crate::desk::Desk;
 use crate::handing::Attends;
+use crate::leaving::{Leaves, LeavingEnd};
 use crate::notes::{Note, Notes, Tells};
 use crate::serves::Serves;
 use ipam_io::SystemClock;
 use ipam_serve::{Queued, SessionEnd};
 use ipam_shared::Pass;
-use ipam_socket::{Limits, SocketLink, Stream, StreamPeer};
+use ipam_socket::{Connection, Limits, SocketLink, StreamPeer};
 use log::Log;
 use std::alloc::Global;
 use std::sync::Wait;
 use std::time::Clock;
 
-/// Serves a session over each connection, for as long as its peer is there and keeps the limits.
+/// Serves a session over each connection, for as long as its peer is there and keeps the limits. A session whose client
+/// is silent between two lines is left, and goes on as another one.
 #[derive(Drop)]
 pub(crate) struct Worker<S: Serves, C> {
     desk: Desk<S, C>,
@@ -31,6 +33,7 @@ pub(crate) struct Worker<S: Serves, C> {
     limits: Limits,
     alarm: Alarm,
     notes: Notes,
+    leaving: LeavingEnd<Connection>,
 }
 
 impl<S: Serves, C: Clock + Copy> Worker<S, C> {
@@ -55,6 +58,7 @@ impl<S: Serves, C: Clock + Copy> Worker<S, C> {
             queue,
             alarm,
             notes,
+            leaving,
         } = common;
         Worker {
             desk: Desk {
@@ -70,13 +74,14 @@ impl<S: Serves, C: Clock + Copy> Worker<S, C> {
             limits,
             alarm,
             notes,
+            leaving,
         }
     }
 
-    /// Serves a session over the connection to its end, and notes the end. Exactly where it ended since the keeper
-    /// failed, it raises the alarm.
-    fn serve<R: Wait + Log>(&mut self, rt: &R, stream: &Stream) -> SessionEnd
-        ensures served { IsAttended C S.keeps (arc_value self.old.desk.opening) self.old.desk.pass self.new.desk.pass stream.entry result }
+    /// Serves a session over the connection to its end, and notes the end unless it was left. Exactly where it ended
+    /// since the keeper failed, it raises the alarm.
+    fn serve<R: Wait + Log>(&mut self, rt: &R, connection: &Connection) -> SessionEnd
+        ensures served { IsAttended C S.keeps (arc_value self.old.desk.opening) self.old.desk.pass self.new.desk.pass connection.entry result }
         ensures counted { self.new.desk.sessions ≡ next_count self.old.desk.sessions }
         ensures heeded { IsHeeded result self.old.alarm.raises self.new.alarm.raises }
     {
@@ -84,8 +89,11 @@ impl<S: Serves, C: Clock + Copy> Worker<S, C> {
             clock: self.clock,
             limits: self.limits,
         };
-        let (end, link, gate): (SessionEnd, SocketLink<C, &Stream>, Asking<StreamPeer<'_>>) =
-            serve_connection(rt, &mut self.desk, &sockets, stream);
+        let (end, link, gate): (
+            SessionEnd,
+            SocketLink<C, &Connection>,
+            Asking<StreamPeer<'_>>,
+        ) = serve_connection(rt, &mut self.desk, &sockets, connection);
         drop(gate);
         let note = if link.is_refused() {
             Note::Refused
@@ -93,18 +101,24 @@ impl<S: Serves, C: Clock + Copy> Worker<S, C> {
             Note::Ended(end)
         };
         self.alarm.heed(end);
-        self.notes.tell(rt, note);
+        if !connection.is_left() {
+            self.notes.tell(rt, note);
+        }
         end
     }
 }
 
-impl<S: Serves, C: Clock + Copy> Attends<Stream> for Worker<S, C> {
+impl<S: Serves, C: Clock + Copy> Attends<Connection> for Worker<S, C> {
     ghost attended = { λ worker. worker.desk.sessions };
 
-    ghost serves = { λ before stream after. IsServedLent C S.keeps (arc_value before.desk.opening) before.desk.pass after.desk.pass stream };
+    ghost serves = { λ before connection after. IsServedLent C S.keeps (arc_value before.desk.opening) before.desk.pass after.desk.pass connection };
 
-    /// Serves a session over the connection to its end, and notes the end.
-    fn attend<R: Wait + Log + Clock>(&mut self, rt: &R, stream: Stream) {
-        self.serve(rt, &stream);
+    /// Serves a session over the connection to its end, and notes the end. Where the session was left, the connection
+    /// goes back to who keeps it.
+    fn attend<R: Wait + Log + Clock>(&mut self, rt: &R, connection: Connection) {
+        self.serve(rt, &connection);
+        if connection.is_left() {
+            self.leaving.leave(rt, connection);
+        }
     }
 }

@@ -1,6 +1,8 @@
 //! Tries to accept a connection, of which some fail, by a clock that makes no pause.
 use crate::told::Told;
-use ipam_daemon::{Attends, Came, Hands, Listens, Note, Passing, Tells, Watches, hand_over_all};
+use ipam_daemon::{
+    Attends, Bell, Came, Hands, Listens, Note, Passing, TakesNow, Tells, Watches, hand_over_all,
+};
 use ipam_socket::Failed;
 use log::kv::Source;
 use log::span::Spans;
@@ -12,8 +14,12 @@ use std::io;
 use std::sync::Wait;
 use std::time::{Clock, Duration};
 
-/// What is told of tries, each of which is a letter: `c` one at which a connection comes, `n` one at which nobody does,
-/// and `p` one that fails for a cause that passes. The try after the last one fails for good.
+/// How many connections are left, and wait to be kept.
+const LEFT: u64 = 3;
+
+/// The text about tries to accept, each of which is a letter: `c` one at which a connection comes, `n` one at which
+/// nobody does, `w` one that is woken, and `p` one that fails for a cause that passes. The try after the last one fails
+/// for good.
 pub(crate) fn told<R: Wait>(rt: &R, alloc: Global, steps: &str) -> Result<String, AllocError> {
     let rt = Paused {
         wait: rt,
@@ -23,17 +29,24 @@ pub(crate) fn told<R: Wait>(rt: &R, alloc: Global, steps: &str) -> Result<String
     let mut tries = Tries {
         letters: steps.lines().next().unwrap_or("").as_bytes(),
         accepted: 0,
+        kept: 0,
         faults: 0,
+    };
+    let mut left = Left {
+        waiting: LEFT,
+        taken: 0,
     };
     let (mut to, mut own) = (Counts(0), Counts(0));
     let (mut watch, mut notes) = (Counts(0), Counts(0));
-    let ended = hand_over_all(&rt, &mut tries, &mut to, &mut own, &mut watch, &mut notes);
-    let (handed, told, faults) = (to.0, notes.0, tries.faults);
+    let ended = hand_over_all(
+        &rt, &mut tries, &mut to, &mut left, &mut own, &mut watch, &mut notes,
+    );
+    let (handed, told, kept, faults) = (to.0, notes.0, tries.kept, tries.faults);
     let is_over = ended.is_err();
     let Paused { pauses, .. } = rt;
     let pauses = pauses.into_inner().into_text()?;
     format!(in alloc;
-        "{handed} handed over, told {told} times, {faults} faults, over: {is_over}, pauses{pauses}\n"
+        "{handed} handed over, {kept} kept, told {told} times, {faults} faults, over: {is_over}, pauses{pauses}\n"
     )
 }
 
@@ -82,16 +95,23 @@ impl<R> Log for Paused<'_, R> {
 struct Tries<'a> {
     letters: &'a [u8],
     accepted: u64,
+    kept: u64,
     faults: u64,
 }
 
 impl Listens<u8> for Tries<'_> {
     ghost accepted = { λ tries. tries.accepted };
 
+    ghost kept = { λ tries. tries.kept };
+
     ghost faults = { λ tries. tries.faults };
 
     fn open(&mut self) -> Result<(), Failed> {
         Ok(())
+    }
+
+    fn bell(&self) -> Result<Bell, AllocError> {
+        Ok(Bell::silent())
     }
 
     fn accept(&mut self) -> Result<Came<u8>, Failed> {
@@ -105,12 +125,37 @@ impl Listens<u8> for Tries<'_> {
                 self.accepted = self.accepted.saturating_add(1);
                 Ok(Came::One(b'c'))
             }
+            b'w' => Ok(Came::Woken),
             b'p' => Ok(Came::Passing(Passing::ProcessFiles)),
             _ => Ok(Came::Nobody),
         }
     }
 
+    fn keep(&mut self, _connection: u8) {
+        self.kept = self.kept.saturating_add(1);
+    }
+
     fn close(&mut self) {}
+}
+
+/// Connections that were left, and how many of them were taken.
+#[derive(Drop)]
+struct Left {
+    waiting: u64,
+    taken: u64,
+}
+
+impl TakesNow<u8> for Left {
+    ghost taken = { λ left. left.taken };
+
+    fn take_now<R: Wait>(&mut self, _rt: &R) -> Option<u8> {
+        if self.waiting == 0 {
+            return None;
+        }
+        self.waiting = self.waiting.saturating_sub(1);
+        self.taken = self.taken.saturating_add(1);
+        Some(b'l')
+    }
 }
 
 /// A count of connections that were handed over or served, of looks, or of notes.

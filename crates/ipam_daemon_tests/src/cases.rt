@@ -27,6 +27,7 @@ fn told<R: Wait>(
         "accepting" => accepting::told(wait, alloc, steps),
         "logged" => ends::told_logged(alloc),
         "silent" => silent::told(rt),
+        "left" => silent::told_left(rt),
         _ => String::from_str(alloc, "no such kind\n"),
     }
 }

@@ -74,7 +74,8 @@ pub fn open<D: Keeper + Drop>(alloc: Global, keeper: D, first: u64) -> Option<Ke
     }
 }
 
-/// The same, shared.
+/// What the keeper has, opened and shared, with the first pass. None where its rows are not opened, or there is no
+/// memory.
 pub fn share<D: Keeper + Drop>(alloc: Global, keeper: D) -> Option<(Shared<D>, Pass)>
     ensures { IfSome result (λ opened. opened.1.lock ≡ opened.0) }
 {

@@ -4,8 +4,8 @@ use ipam_serve::{MOST_WAITS, Others, Place, Queue};
 use std::alloc::{AllocError, Global};
 use std::sync::Wait;
 
-/// What is told of these steps at a queue: each that waits tells how often it waited. Places and those that were
-/// told of at a leave have numbers, from 0 on.
+/// The text about these steps at a queue: each that waits writes how often it waited. Places have numbers, from 0
+/// on, and so have the others that a leave returns.
 pub(crate) fn told<R: Wait>(rt: &R, alloc: Global, steps: &str) -> Result<String, AllocError> {
     let queue = Queue::new();
     let mut places = Vec::new(alloc);

@@ -19,8 +19,8 @@ const END: &str = "\n= session ";
 /// The most entries that a cluster may be opened with.
 const MOST_FIRST: u64 = 1 << 62;
 
-/// What is told of sessions, each of which goes up to the line of its end, and of the rows whose keys begin as a line
-/// `get START` says. A line `first N` says how many entries there are before them.
+/// The text about sessions, each of which goes up to the line of its end, and about the rows whose keys begin as a
+/// line `get START` says. A line `first N` says how many entries there are before them.
 pub(crate) fn told<R: Wait>(rt: &R, alloc: Global, steps: &str) -> Result<String, AllocError> {
     let mut told = Told::new(alloc);
     match keeper_of(alloc, FREE, steps) {

@@ -1,7 +1,7 @@
-//! A text that is told piece by piece.
+//! A text that is made piece by piece.
 use std::alloc::{AllocError, Global};
 
-/// What is told so far. Where there was no memory for a piece, there is none for the whole.
+/// The text so far. Where there was no memory for a piece, there is none for the whole.
 #[derive(Drop)]
 pub struct Told {
     text: String,

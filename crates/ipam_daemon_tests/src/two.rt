@@ -59,7 +59,7 @@ impl<R: Wait, S: Serves> SessionGate for Meanwhile<'_, R, S> {
     }
 }
 
-/// What is told of two sessions. The first has the steps before a line `meanwhile`. Before the pass that its line
+/// The text about two sessions. The first has the steps before a line `meanwhile`. Before the pass that its line
 /// `at N` says the second is served, which has those behind it. The requests of both enter one queue.
 pub(crate) fn told<R: Wait>(rt: &R, alloc: Global, steps: &str) -> Result<String, AllocError> {
     told_over(rt, alloc, keeper_of(alloc, FREE, "")?, steps)
@@ -80,7 +80,8 @@ fn told_over<R: Wait, D: Keeper + Drop>(
     }
 }
 
-/// Where a line `patience` says so, it is also told what the patience of the first was asked.
+/// The text about both sessions. Where a line `patience` says so, it also has what the patience of the first was
+/// asked.
 #[tactic(auto, using(ipam_daemon::proofs::Idle::is_idle))]
 fn told_of_both<R: Wait, S: Serves>(
     rt: &R,

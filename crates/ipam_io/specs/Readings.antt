@@ -12,7 +12,7 @@ abbrev pub prepend_readings : List ℕ → (ℕ → ℕ) → ℕ → ℕ
 prepend_readings [] ahead = ahead
 prepend_readings (reading ∷ readings) ahead = prepend_reading reading (prepend_readings readings ahead)
 
--- the same, where those that follow are known
+-- the readings of the list, and then those that follow, where these are known
 abbrev pub prepend_known_readings : List ℕ → Option (ℕ → ℕ) → Option (ℕ → ℕ)
 prepend_known_readings readings ahead = option_map (prepend_readings readings) ahead
 

@@ -8,8 +8,8 @@ pub trait Clock {
     /// follows on so many others.
     ghost ahead: { Self → Option (ℕ → ℕ) };
 
-    /// The next reading, in whole seconds. Nothing is said of real time, nor that a reading is no
-    /// less than the one before it.
+    /// The next reading, in whole seconds. It need not be real time, and may be less than the one
+    /// before it.
     fn now(&mut self) -> u64
         ensures { ahead self.old ≡ prepend_known_readings (result ∷ []) (ahead self.new) };
 }

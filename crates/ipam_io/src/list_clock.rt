@@ -1,11 +1,12 @@
-//! A clock that gives the readings it was told.
+//! A clock that gives the readings of a list.
 ghost use Rattle.std.specs.Prelude.{◌≡◌, slice_index_or, drop};
 ghost use Rattle.ipam_io.specs.Readings.{last_reading};
 
 use super::clock::Clock;
 use std::marker::Model;
 
-/// A clock that gives the readings it was told in order, and then the last of them again.
+/// A clock that gives the readings of a list in order, and then the last of them again; 0
+/// where the list is empty.
 #[derive(Drop)]
 pub struct ListClock {
     readings: Vec<u64>,

@@ -1,4 +1,4 @@
-//! A gate that stops the passes it was told.
+//! A gate that stops the passes whose numbers a list has.
 ghost use Rattle.std.specs.Prelude.{◌≡◌, ◌≤◌};
 ghost use Rattle.ipam_io.specs.Counts.{next_count, is_next_listed};
 
@@ -6,7 +6,7 @@ use super::gate::{Gate, Passed, Point};
 use super::parts::CallList;
 use std::marker::Model;
 
-/// A gate that stops the passes it was told, and counts those at a turn.
+/// A gate that stops the passes whose numbers a list has, and counts those at a turn.
 #[derive(Drop)]
 pub struct ListGate {
     passes: CallList,

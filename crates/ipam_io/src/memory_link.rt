@@ -9,8 +9,8 @@ use super::source::{Failed, Source};
 use std::alloc::{AllocError, Global};
 use std::marker::Model;
 
-/// A link that gives the bytes it was made with and keeps what is written to it, and fails where
-/// its room ends and at the reads and writes it was told.
+/// A link that gives the bytes it was made with and keeps what is written to it. It fails where
+/// its room ends, and at the reads and writes whose numbers a list has.
 #[derive(Drop)]
 pub struct MemoryLink {
     unread: Unread,

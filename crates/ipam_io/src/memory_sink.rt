@@ -8,8 +8,8 @@ use super::source::Failed;
 use std::alloc::{AllocError, Global};
 use std::marker::Model;
 
-/// A sink that keeps what is written to it, and fails where its room ends and at the writes it
-/// was told.
+/// A sink that keeps what is written to it. It fails where its room ends, and at the writes
+/// whose numbers a list has.
 #[derive(Drop)]
 pub struct MemorySink {
     page: Page,

@@ -6,7 +6,8 @@ use super::parts::{CallList, Unread};
 use super::source::{Failed, Source};
 use std::marker::Model;
 
-/// A source that gives the bytes it was made with, and fails at the reads it was told.
+/// A source that gives the bytes it was made with, and fails at the reads whose numbers a list
+/// has.
 #[derive(Drop)]
 pub struct MemorySource {
     unread: Unread,

@@ -25,8 +25,8 @@ impl<R: std::rt::Clock> Clock for SystemClock<R> {
 
     ghost ahead = { λ _. None };
 
-    /// The latest time that the system told so far. So it is never less than the one before it,
-    /// also where the system's clock is set back or can't be read; before any time was told it is 0.
+    /// The latest time that the system gave so far, in whole seconds since 1970. It never falls,
+    /// also where the system's clock is set back or can't be read; it is 0 before the first time.
     fn now(&mut self) -> u64
         ensures reading { result ≡ latest_time self.new }
         ensures never_falls { latest_time self.old ≤ latest_time self.new }

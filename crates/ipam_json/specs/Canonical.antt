@@ -41,7 +41,7 @@ pub record IsCanonicalWithin (levels : ℕ) (d : Data) : Type 0 where
   pub regular : IsRegular d
   pub shallow : depth d ≤ levels
 
--- the same, nested no deeper than the reader goes
+-- regular data whose arrays and objects nest no deeper than the reader goes
 abbrev pub IsCanonical : Data → Type 0
 IsCanonical = IsCanonicalWithin max_depth
 

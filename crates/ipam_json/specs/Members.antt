@@ -41,7 +41,7 @@ number_at name d = option_and_then in_32_bits (whole_at name d)
 abbrev pub items_at : List ℕ → Data → Option Items
 items_at name d = option_and_then as_array (get name d)
 
--- the same as a list
+-- the list of the items of the array of this name
 abbrev pub list_at : List ℕ → Data → Option (List Data)
 list_at name d = option_and_then items_in (get name d)
 
@@ -49,7 +49,7 @@ list_at name d = option_and_then items_in (get name d)
 abbrev pub members_at : List ℕ → Data → Option Members
 members_at name d = option_and_then as_object (get name d)
 
--- the same as a list
+-- the list of the members of the object of this name
 abbrev pub fields_at : List ℕ → Data → Option (List Field)
 fields_at name d = option_and_then members_in (get name d)
 

@@ -18,7 +18,7 @@ pub enum Want {
     Whole,
 }
 
-/// There is no value of that kind at the path.
+/// Why a reader found nothing: no value of that kind is at the path.
 #[derive(Debug, Drop)]
 pub struct FieldFault {
     /// The path that the reader was given: member names and decimal indexes, joined by dots. The

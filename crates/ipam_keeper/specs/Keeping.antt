@@ -15,11 +15,11 @@ pub data KeeperChange : Type 0 where
   PutIn : Row → KeeperChange
   TakeOut : (key : List ℕ) → KeeperChange
 
--- these are the rows, where they are told
+-- the rows are these, where they are known
 abbrev pub IsTold : Option (List Row) → List Row → Type 0
 IsTold known rows = IfSome known (λ told. rows ≡ told)
 
--- the rows after a put and after a removal, where they are told
+-- the rows after a put and after a removal, where they are known
 abbrev pub known_with : Row → Option (List Row) → Option (List Row)
 known_with row = option_map (rows_with row)
 

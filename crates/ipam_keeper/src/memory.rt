@@ -10,7 +10,7 @@ use crate::rows;
 use ipam_records::Row;
 use std::marker::Model;
 
-/// A keeper that has its rows in memory, and fails at the calls it was told. Each row is sure at once.
+/// A keeper that has its rows in memory, and fails at the calls that its lists name. Each row is sure at once.
 #[derive(Drop)]
 pub struct MemoryKeeper {
     rows: Vec<Row>,

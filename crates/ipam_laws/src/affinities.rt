@@ -21,7 +21,8 @@ pub fn points_of_claims_and_releases_agree()
     ensures { LabelPointsLaw }
 {}
 
-/// The same of a claimer or a releaser that stands between its writes by the calls that it has made.
+/// While a claimer or a releaser stands between its writes, by the calls that it has made, its point
+/// agrees with the datastore as `points_of_claims_and_releases_agree` says of its label.
 pub fn points_of_claims_and_releases_agree_by_their_calls()
     ensures { PointsLaw }
 {}

@@ -56,19 +56,19 @@ pub fn a_del_is_answered_right()
     ensures { DelAnswersLaw }
 {}
 
-/// Whatever an ADD without an address is answered is right. It gives, for each wanted family, in their
-/// order, an address that was the choice on what was read at the moments that are told, in a block as
-/// it was listed, and that was recorded later to the handle, with the request's attributes and a new
-/// stamp. It has none where the choice on what was read is nothing, where no enabled pool has a name
-/// that it was given, where a record could not be created, or where the handle's count of the chosen
-/// block was at its limit; and then nothing that it was given is owned any more.
+/// Each answer to an ADD without an address is right. It gives, for each wanted family, in their order,
+/// an address that was the choice on what was read at the moments that the answer names, in a block as it
+/// was listed, and that was recorded later to the handle, with the request's attributes and a new stamp.
+/// It has none where the choice on what was read is nothing, where no enabled pool has a name that it was
+/// given, where a record could not be created, or where the handle's count of the chosen block was at its
+/// limit; and then nothing that it was given is owned any more.
 pub fn an_add_is_answered_right()
     ensures { AddAnswersLaw }
 {}
 
 /// Whatever a collection is answered is right: it tells of exactly the owners that were in scope, live by
 /// neither list of live handles, and owners still when the blocks were listed again; in the order of
-/// their addresses, each told as freed exactly where this collection freed it; and none of them owns its
+/// their addresses, each marked as freed exactly where this collection freed it; and none of them owns its
 /// address any more. Or it says why it stopped.
 pub fn a_collection_is_answered_right()
     ensures { CollectAnswersLaw }
@@ -79,9 +79,9 @@ pub fn every_answer_is_right()
     ensures { AnswersLaw }
 {}
 
-/// A request is answered that it was tried too often where exactly so many races were lost and claims
-/// confirmed, and this call made one of them reach its bound; that there was no room where a record
-/// could not be created; and that there were no revisions where this call was told so.
+/// The reason why a request stopped is so. One that was tried too often lost exactly so many races and
+/// confirmed so many claims, and this call made one of them reach its bound. One that found no room could
+/// not create a record. One that found no revisions had this as the reply to this call.
 pub fn what_stops_a_request_is_so()
     ensures { StopLaw }
 {}

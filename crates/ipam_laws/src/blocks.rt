@@ -24,8 +24,8 @@ pub fn nothing_is_queued_before_what_stays_free()
     ensures { NoneComesAheadLaw }
 {}
 
-/// So an address is given again as late as can be: while an ordinal that was free when the address was
-/// held is still free and not reserved, the choice of an ADD in that block does not come to the address.
+/// An address is given again as late as can be: while an ordinal that was free when the address was held
+/// is still free and not reserved, the choice of an ADD in that block does not come to the address.
 pub fn an_address_is_given_again_as_late_as_can_be()
     ensures { GivenAgainLateLaw }
 {}

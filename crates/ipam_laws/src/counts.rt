@@ -30,8 +30,8 @@ pub fn no_count_is_too_high_without_a_cause()
     ensures { CausesLaw }
 {}
 
-/// So where the base's counts are what its handles own, and no request was stopped, failed or gave up,
-/// each count is what its handle owns whenever nothing runs.
+/// Where the base's counts are what its handles own, and no request was stopped, failed or gave up, each count is
+/// what its handle owns whenever nothing runs.
 pub fn counts_are_exact_where_no_request_was_ended_short()
     ensures { ExactLaw }
 {}

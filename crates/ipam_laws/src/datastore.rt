@@ -13,7 +13,7 @@ pub fn one_key_and_one_revision_have_one_record()
     ensures { OneRecordLaw }
 {}
 
-/// What runs may be told the datastore's reply to its call: some sound datastore answers so, and a
+/// What runs may hear the datastore's reply to its call: some sound datastore answers so, and a
 /// read of the handle that the request has a credit for finds a count as high as the credit.
 pub fn what_runs_may_be_told_the_reply_of_the_datastore()
     ensures { MayHearLaw }

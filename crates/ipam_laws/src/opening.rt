@@ -2,7 +2,7 @@
 ghost use Rattle.ipam_model.specs.Opened.{OneOpenedLaw, SameRecordsLaw, OpenedLaw, OpenedAgainLaw, OpensLaw, InDoubtLaw, FirstFaultLaw, AllReadLaw};
 
 /// Either nothing breaks the rows, or one fault is the first: by the least number of a rule, and then
-/// by the bytes of the key that it is told of.
+/// by the bytes of the key that it names.
 pub fn rows_have_a_first_fault_or_none()
     ensures { FirstFaultLaw }
 {}

@@ -140,7 +140,7 @@ PointsLaw =
     (base : Base) (history : List Entry) → IsDatastore base.store → AgreesWithAffinities base.store
     → Lawful base history → PointsAgree (IsAt base history) base history × PointsKeep (IsAt base history) base history
 
--- the same of the points that the labels say
+-- The points that the labels name agree with the store, and are kept.
 abbrev pub LabelPointsLaw : Type 0
 LabelPointsLaw =
     (base : Base) (history : List Entry) → IsDatastore base.store → AgreesWithAffinities base.store

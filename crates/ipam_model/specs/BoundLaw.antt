@@ -25,7 +25,7 @@ use Rattle.ipam_model.specs.Remove.{Leak, suspects, leaks}
 use Rattle.ipam_model.specs.Requests.{word_of}
 use Rattle.ipam_model.specs.Tries.{calls_of}
 
--- whatever is said to them
+-- How many calls each request makes at most, whatever the replies are.
 pub record BoundLaw : Type 0 where
   pub add : (request : AddRequest) → AtMost (word_of (Add request)) 2000
   pub add_this : (request : AddRequest) (address : AddrValue) → AtMost (word_of (AddThis request address)) 2000

@@ -9,7 +9,7 @@ use Rattle.ipam_model.specs.History.{Lawful, cluster_at}
 use Rattle.ipam_model.specs.Moments.{request_in}
 use Rattle.ipam_model.specs.Told.{of_add, of_add_this, of_del, of_check, of_release, of_collect, of_admin, of_probe}
 
--- an answer that is told so
+-- the answer of a request, made of an answer of its own procedure
 abbrev pub IsOneAnswer : {A : Type 0} → (A → Answer) → Answer → Type 0
 IsOneAnswer {A} of_one told = (one : A) × (told ≡ of_one one)
 

@@ -59,7 +59,8 @@ CountLaw =
     (base : Base) (history : List Entry) → IsDatastore base.store → IsCovered base.store → Lawful base history
     → IsCovered (store_at base history)
 
--- and with what the running requests are ahead by
+-- The counts of a store also cover its owners with what the running requests are ahead
+-- by.
 abbrev pub CreditLaw : Type 0
 CreditLaw =
     (base : Base) (history : List Entry) → IsDatastore base.store → IsCovered base.store → Lawful base history

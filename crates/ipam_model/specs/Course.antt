@@ -20,7 +20,7 @@ slot_count = SLOTS
 abbrev pub most_entries : ℕ
 most_entries = 2 ^ 62
 
--- what a cluster is told
+-- what happens to a cluster
 pub data Event : Type 0 where
   Begin : (slot : ℕ) → Request → Event
   -- the slot's next call, with its fate
@@ -116,7 +116,7 @@ pub record Course : Type 0 where
   pub entries : List Entry
   pub refused : Option Refused
 
--- the same of one event more before it
+-- what was refused, counted with one event more before it
 abbrev pub one_later : Refused → Refused
 one_later refused = record { place = refused.place + 1; why = refused.why }
 

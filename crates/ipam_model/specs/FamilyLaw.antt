@@ -32,8 +32,8 @@ AreFromRounds span request (family ∷ families) (given ∷ more) =
 AreFromRounds span request [] (given ∷ more) = ⊥
 AreFromRounds span request (family ∷ families) [] = ⊥
 
--- The round of the answer was for a wanted family, and the choice on what it read was the one that is
--- told, or an address of the block whose count was at its limit.
+-- The round of the answer was for a wanted family. The choice on what it read is that of the answer,
+-- or an address of the block whose count was at its limit.
 abbrev pub IsOfRound : Answered → AddRequest → Answer → Type 0
 IsOfRound a add (answer.Added given) = AreFromRounds (span_of a) add (families_of add) given
 IsOfRound a add (answer.Exhausted scan) = HasChosen (span_of a) add scan Nothing

@@ -20,7 +20,7 @@ FateLaw =
     (base : Base) (history : List Entry) (c : Called) (fate : Fate) → Lawful base (entry.Called c ∷ history)
     → (other : Called) × IsSameCall c other fate × Lawful base (entry.Called other ∷ history)
 
--- the same slots run the same
+-- each slot runs in both clusters alike
 abbrev pub HasSameSlots : (cluster other : ClusterState) → Type 0
 HasSameSlots cluster other = cluster.slots ≡ other.slots
 

@@ -128,7 +128,7 @@ pub record RequestSpan : Type 0 where
   pub history : List Entry
   pub slot : ℕ
 
--- the same as it was before a moment
+-- the span as it was before a moment
 abbrev pub span_before : RequestSpan → ℕ → RequestSpan
 span_before span moment = record span { history = before span.base span.history moment }
 

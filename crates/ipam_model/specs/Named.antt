@@ -17,7 +17,7 @@ name_of (call.Create new) = name.Create (key_of new)
 name_of (call.Update new revision) = name.Update (key_of new) revision
 name_of (call.Delete key revision) = name.Delete key revision
 
--- what was said, without the records
+-- a reply without its records
 abbrev pub told_of : Said → Told
 told_of (Found revision found) = told.Found revision
 told_of Missing = told.Missing

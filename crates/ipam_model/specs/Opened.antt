@@ -75,7 +75,7 @@ IsBrokenBlock revision (Ok (record_of.Block b)) = revision ≤ b.sequence
 IsBrokenBlock revision (Err broken) = broken ≡ fault.Unsound
 IsBrokenBlock revision _ = ⊥
 
--- What breaks the rows: the number of the rule, and the text of the key that it is told of.
+-- What breaks the rows: the number of the rule, and the text of the key that the fault names.
 pub data Breaks (texts : Texts) : (number : ℕ) (about : List ℕ) → Type 0 where
   -- 1: the key or the body is no text of the format
   NoText : (row : RowText) → Contains texts.rows row → reading_of row ≡ Err fault.Form → Breaks texts 1 row.key
@@ -157,7 +157,7 @@ pub record IsTextOf (texts : Texts) (store : Datastore) : Type 0 where
 abbrev pub OpenedLaw : Type 0
 OpenedLaw = (texts : Texts) (store : Datastore) → OpensAs texts store → IsConsistent store
 
--- Either nothing breaks the rows, or there is a first fault to be told.
+-- Either nothing breaks the rows, or one fault is the first.
 abbrev pub FirstFaultLaw : Type 0
 FirstFaultLaw = (texts : Texts) → MayBeOpened texts ⊎ ((number : ℕ) × (about : List ℕ) × IsRefusedBy texts number about)
 
@@ -171,7 +171,7 @@ AllReadLaw =
 abbrev pub OpensLaw : Type 0
 OpensLaw = (texts : Texts) → AreByKey texts.rows → MayBeOpened texts → (store : Datastore) × OpensAs texts store
 
--- and as one at most
+-- rows open as one datastore at most
 abbrev pub OneOpenedLaw : Type 0
 OneOpenedLaw = (texts : Texts) (one other : Datastore) → OpensAs texts one → OpensAs texts other → one ≡ other
 

@@ -55,7 +55,7 @@ pub record IsDeleted (a : Answered) (id : List ℕ) (moment : ℕ) : Type 0 wher
 abbrev pub owner_in : Item → Owner
 owner_in item = record { address = item.address; handle = item.handle; stamp = item.stamp }
 
--- the items are exactly the leaks, in their order, each told as freed exactly where the collection
+-- the items are exactly the leaks, in their order, each marked as freed exactly where the collection
 -- freed it, and no leak owns its address now
 pub record IsCollectedRight (a : Answered) (request : CollectRequest) (collected : Collected) : Type 0 where
   pub went_by : Collecting (span_of a) request

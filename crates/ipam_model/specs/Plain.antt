@@ -320,7 +320,8 @@ plain_probe request (family ∷ families) rows =
 abbrev pub plain_collection : CollectRequest → Rows → Option PlainResult
 plain_collection request rows = if request.grace == 0 then Some (plain_collect request rows) else None
 
--- the release of an affinity and administration are only said by their words
+-- The request's function of the records. The release of an affinity and administration have none:
+-- only their words say what they do.
 abbrev pub plain : Request → Rows → Option PlainResult
 plain (Add request) rows = Some (plain_add request rows)
 plain (AddThis request address) rows = Some (plain_add_this (record { request = request; address = address }) rows)

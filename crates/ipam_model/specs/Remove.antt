@@ -91,7 +91,7 @@ leaks_in_row request _ = []
 abbrev pub suspects : CollectRequest → List StoredRecord → List Leak
 suspects request rows = flat_map (leaks_in_row request) rows
 
--- those of them that own still, and whose handles are not in the second list either
+-- the suspects that own still, and whose handles are not in the second list either
 abbrev pub leaks : List Leak → (live : List (List ℕ)) → List StoredRecord → List Leak
 leaks kept live rows =
     filter (λ leak. is_owner_in rows leak.owner && not (is_live live leak.owner.handle)) kept

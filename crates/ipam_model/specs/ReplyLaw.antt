@@ -39,8 +39,8 @@ RepliesLaw =
     → (next_call : Call) × (c.call ≡ name_of next_call)
     × IsAnsweredBy (store_at base history) (store_at base (entry.Called c ∷ history)) next_call c c.fate
 
--- What runs may be told the datastore's reply to its call: some sound datastore answers so, and a read
--- of the handle that there is a credit for finds the credit covered.
+-- What runs may hear the datastore's reply to its call: some sound datastore answers so, and a read of
+-- the handle that there is a credit for finds the credit covered.
 abbrev pub MayHearLaw : Type 0
 MayHearLaw =
     (base : Base) (history : List Entry) (slot : ℕ) (running : RunningRequest) (call : Call)

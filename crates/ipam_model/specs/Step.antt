@@ -120,7 +120,7 @@ stop_answer answers left NoRoom = answers.full
 stop_answer answers left (CountAtLimit moment) = answers.count_full moment
 stop_answer answers left NoRevisions = answers.spent
 
--- those of a procedure that raises no count
+-- the answers of a procedure that raises no count, where it stops
 abbrev pub without_count : {A : Type 0} → (again : ℕ → A) → (full spent : A) → StopAnswers A
 without_count again full spent = record {
   again = λ lost claims. again lost;

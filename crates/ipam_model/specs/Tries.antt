@@ -110,6 +110,6 @@ confirmed_claims [] = 0
 confirmed_claims (c ∷ earlier) =
     (if is_confirmation_of c.written then 1 else 0) + confirmed_claims earlier
 
--- those of an ADD
+-- how many claims an ADD confirmed; other requests have none
 abbrev pub claims_of : Request → List Called → ℕ
 claims_of request calls = if is_add request then confirmed_claims calls else 0

@@ -105,8 +105,8 @@ impl Drop for Collected {
     }
 }
 
-/// What a request is answered. A bare number is the moment of the read that decided it, where
-/// nothing else is said.
+/// What a request comes to. A bare number is the moment of the read that decided it, unless its
+/// variant says otherwise.
 pub enum Answer {
     /// One address for each wanted family, IPv4 first.
     Added(Seq<Given>),

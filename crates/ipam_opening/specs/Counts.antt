@@ -38,12 +38,13 @@ abbrev pub with_short : List StoredRecord → BlockValue → List ℕ → Option
 with_short rows b id first =
     if is_short rows b id then earlier first (Some (key_bytes (key.Handle id))) else first
 
--- the same of the handles of these allocations
+-- the first of the keys, where the handles of these allocations are among them if they are short
 abbrev pub with_shorts : List StoredRecord → BlockValue → Option (List ℕ) → List Allocation → Option (List ℕ)
 with_shorts rows b first [] = first
 with_shorts rows b first (a ∷ rest) = with_shorts rows b (with_short rows b a.attributes.handle first) rest
 
--- of what was read of one row
+-- the first of the keys, where the handles of what was read of one row are among them if they are
+-- short
 abbrev pub with_shorts_in : List StoredRecord → Option (List ℕ) → Result Record TextFault → Option (List ℕ)
 with_shorts_in rows first (Ok (record_of.Block b)) = with_shorts rows b first b.allocations
 with_shorts_in rows first _ = first

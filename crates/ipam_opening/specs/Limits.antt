@@ -26,6 +26,6 @@ abbrev pub at_block : List RowText → ℕ → Option RowText
 at_block [] = λ left. None
 at_block (row ∷ rows) = λ left. or_behind row (at_block rows) (left_behind (is_block_read (reading_of row)) left)
 
--- what is told of a counter above the last revision
+-- the text of the fault where the counter is above the last revision: `counter`
 abbrev pub counter_above : ℕ → Option (List ℕ)
 counter_above counter = if nat_lt last_revision counter then Some (codes "counter") else None

@@ -13,7 +13,7 @@ abbrev pub IsFaultOf : Texts → OpenFault → Type 0
 IsFaultOf texts (Refused number about) = IsRefusedBy texts number about
 IsFaultOf texts Memory = Unit {0}
 
--- what is told of a rule, by the first key that was found to break it: the fault, and want of memory only
+-- what a rule comes to, by the first key that was found to break it: the fault, and want of memory only
 -- where there was none to find it
 abbrev pub told : {E : Type 0} → (number : ℕ) → Result (Option (List ℕ)) E → Result (Unit {0}) OpenFault
 told number (Ok None) = Ok tt

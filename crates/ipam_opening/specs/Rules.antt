@@ -97,7 +97,8 @@ is_affinity_alone rows _ = false
 abbrev pub is_no_revision : ℕ → ℕ → Bool
 is_no_revision counter revision = revision == 0 || (nat_lt counter revision || nat_lt last_revision revision)
 
--- whether the row breaks the rule by itself; two rules are told of no row
+-- whether the row breaks the rule by itself; the rules of counts and of limits are broken
+-- by no single row
 abbrev pub breaks : Rule → Texts → RowText → Bool
 breaks rule.Form texts row = has_fault fault.Form (reading_of row)
 breaks rule.Key texts row = has_fault fault.Key (reading_of row)

@@ -1,4 +1,4 @@
--- Of what breaks the rows, what is told.
+-- The key that is named by the fault of a broken rule.
 use Rattle.std.specs.Prelude.{◌≢◌, ℕ, ◌<◌, List, map, find, slice_get, Option, Some, None, option_map}
 use Rattle.std.specs.declared.cmp.Ordering.TheVariants.{Greater}
 use Rattle.std.specs.Cmp.Lexicographic.{slice_cmp}
@@ -29,7 +29,7 @@ IsFirstOf Is None = (other : List ℕ) → ¬ (Is other)
 abbrev pub key_in : Option RowText → Option (List ℕ)
 key_in = option_map (λ row. row.key)
 
--- the key that is told of the rule, where the rules below are kept
+-- the key that the rule's fault names, where the rules below are kept
 abbrev pub first_by : Rule → Texts → Option (List ℕ)
 first_by rule.Count texts = first_short (readable texts.rows) None (map reading_of texts.rows)
 first_by rule.Limits texts = earlier (key_in (slice_get texts.rows most_rows)) (key_in (at_block texts.rows most_blocks))

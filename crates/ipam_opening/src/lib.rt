@@ -1,5 +1,5 @@
-//! Rows that are opened: texts that another process or this one kept, from which a datastore is
-//! made, or of which the first fault is told.
+//! Opening rows: texts that another process or this one kept become a datastore, or their first
+//! fault is found.
 #![tactic(auto)]
 
 mod counts;

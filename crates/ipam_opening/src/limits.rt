@@ -45,8 +45,8 @@ impl<'a> Given<'a> {
         None
     }
 
-    /// The first key that is told of revisions: of a row whose revision is 0, above the counter or
-    /// above the last one, or `counter` where this is above the last one.
+    /// The first key that breaks the rule of revisions: that of a row whose revision is 0, above
+    /// the counter or above the last one, or `counter` where this is above the last one.
     pub(crate) fn first_revision(&self, alloc: Global) -> Result<Option<Text>, AllocError>
         requires { IsRead self.now }
         ensures { IfOk result (λ first. first ≡ earlier

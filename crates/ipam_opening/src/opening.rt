@@ -111,7 +111,7 @@ impl Given<'_> {
         told(rule, self.first_by(alloc, rule))
     }
 
-    // The first key that is told of the rule, where the rules below are kept.
+    // The key that the rule's fault names, where the rules below are kept.
     fn first_by(&self, alloc: Global, rule: Rule) -> Result<Option<Text>, AllocError>
         requires { IsRead self.now }
         ensures { IfOk result (λ first. first ≡ first_by rule (texts_given self.now)) }
@@ -125,7 +125,7 @@ impl Given<'_> {
     }
 }
 
-// What is told of the rule, by what was found of the keys that break it. Takes no memory.
+// What the rule comes to, by the first key that was found to break it. Takes no memory.
 fn told(rule: Rule, found: Result<Option<Text>, AllocError>) -> Result<(), OpenFault>
     ensures { result ≡ told (number_of rule) found }
 {

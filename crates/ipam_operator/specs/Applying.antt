@@ -47,7 +47,7 @@ item_line one (Ok answer.Again) = again_line one
 item_line one (Ok answer.Fault) = codes "keeper fault\n"
 item_line one (Err why) = fault_line why
 
--- and how the run ends at it; where it is done, the run goes on
+-- how the run ends at a resource whose request came to this; where it is done, the run goes on
 abbrev pub item_end : Result OperatorAnswer AskFault → End
 item_end (Ok answer.Done) = end.Done
 item_end (Ok answer.Released) = end.ReplyFault
@@ -95,8 +95,8 @@ asked_outside_of sent send_faults coming read_faults written write_faults = reco
   write_faults = write_faults;
 }
 
--- The resource's request was asked, and what it came to is told. Where that takes memory and there was none,
--- nothing is.
+-- The resource's request was asked, and the line of what it came to was written. Where that takes memory and
+-- there was none, nothing was.
 pub record IsTold (one : Resource) (came : Result OperatorAnswer AskFault) (old new : AskedOutside) (last : End) : Type 0 where
   pub asked : Asks answer_of_line (request_line (Admin one.change)) came old.wire new.wire
   pub told : Says (TakesMemory came) old.written new.written old.write_faults new.write_faults (item_line one came) (item_end came) last

@@ -12,7 +12,7 @@ use Rattle.ipam_operator.specs.Filling.{filled}
 
 -- what there is of the new database and of the sink
 pub record DatabaseAndSink : Type 0 where
-  -- the rows, and those that are sure, where they are told
+  -- the rows, and those that are sure, where they are known
   pub rows : Option (List Row)
   pub settled : Option (List Row)
   pub faults : ℕ
@@ -36,7 +36,7 @@ abbrev pub BackupWrites : (old new : DatabaseAndSink) (text : List ℕ) (own las
 BackupWrites old new text own last = WritesText old.written new.written old.write_faults new.write_faults text own last
 
 -- These rows are put into the database, after the last one all of its rows are made sure, and it is closed, which is
--- `closed`; then their number is told, which takes memory. Or the database failed; or there was no memory.
+-- `closed`; then their number is written, which takes memory. Or the database failed; or there was no memory.
 pub data BacksUp (closed : Type 0) (rows : List Row) (old new : DatabaseAndSink) (last : End) : Type 0 where
   Saved : closed → new.rows ≡ filled rows old.rows → new.settled ≡ new.rows → new.faults ≡ old.faults
       → Says (Unit {0}) old.written new.written old.write_faults new.write_faults (saved_line (length rows)) end.Done last → BacksUp closed rows old new last
@@ -51,7 +51,7 @@ BacksUpAsked closed (Ok None) old new last = IsUntouched old new × BackupWrites
 BacksUpAsked closed (Err why) old new last =
     IsUntouched old new × Says (why ≡ fault.Memory) old.written new.written old.write_faults new.write_faults (fault_line why) (fault_end why) last
 
--- The same of a keeper: its rows are put in; or it failed; or there was no memory.
+-- What comes of what a keeper has: its rows are put in; or it failed; or there was no memory.
 pub data BacksUpKept (closed : Type 0) (told : Option (List Row)) (faults faults' : ℕ) (old new : DatabaseAndSink) (last : End) : Type 0 where
   Loaded : (rows : List Row) → IsTold told rows → faults' ≡ faults → BacksUp closed rows old new last → BacksUpKept closed told faults faults' old new last
   LoadFailed : Rose faults faults' → IsUntouched old new → BackupWrites old new keeper_line end.KeeperFault last → BacksUpKept closed told faults faults' old new last

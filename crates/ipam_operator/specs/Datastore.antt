@@ -18,7 +18,7 @@ is_counted revision _ = true
 abbrev pub is_row : ℕ → Record → Bool
 is_row revision found = nat_lt 0 revision && (nat_le revision last_revision && is_counted revision found)
 
--- and there is room for it
+-- the record may have this revision, and there is room for it
 abbrev pub may_load : ℕ → Record → Datastore → Bool
 may_load revision found store = is_row revision found && has_room store (key_of found)
 
@@ -32,7 +32,8 @@ abbrev pub with_reading : ℕ → Result Record TextFault → Datastore → Opti
 with_reading revision (Ok found) store = with_record revision found store
 with_reading revision (Err broken) store = None
 
--- the same of a row
+-- the datastore with this row's record too, where it can be read and none with its key is
+-- there
 unfoldable pub with_text : Row → Datastore → Option Datastore
 with_text row store = with_reading row.revision (record_reading row.key row.body) store
 

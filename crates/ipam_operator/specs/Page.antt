@@ -67,7 +67,7 @@ rows_with kind before (item d ds) = do
   row ← row_of kind before d
   rows_with kind (before ++ row ∷ []) ds
 
--- whether there are more rows; none are told by a page that says nothing of it
+-- whether there are more rows; a page that says nothing of it has the last ones
 abbrev pub more_said : Option Data → Option Bool
 more_said (Some d) = as_bool d
 more_said None = Some false
@@ -95,7 +95,7 @@ page_in kind before d = do
   rows ← rows_with kind before ds
   page_told rows (more_of d (length before) (length rows))
 
--- the same of the line that came
+-- these rows and those of the page that the line has, and whether there are more
 unfoldable pub page_of_line : RowKind → (before : List Row) → (line : List ℕ) → Option (List Row × Bool)
 page_of_line kind before line = do
   d ← json_of_line line

@@ -6,7 +6,8 @@ use Rattle.ipam_commands.specs.declared.audit_report.Excess.{Excess}
 use Rattle.ipam_commands.specs.declared.audit_report.Report.{Report}
 use Rattle.ipam_model.specs.Usable.{is_same_cidr}
 
--- the same handle and block, with the same count, of which as much is owned
+-- whether two counts are of one handle and block, and have one count and one number of
+-- owned addresses
 abbrev pub is_same_excess : (one other : Excess) → Bool
 is_same_excess one other =
     bytes_eq one.handle other.handle && is_same_cidr one.cidr other.cidr && (one.count == other.count) && (one.owned == other.owned)

@@ -15,7 +15,8 @@ pub data WritesText (old new : Option (List ℕ)) (faults faults' : ℕ) (text :
   Whole : new ≡ append_known old text → faults' ≡ faults → WritesText old new faults faults' text own own
   Cut : AppendsPrefix old new text → Rose faults faults' → WritesText old new faults faults' text own end.WriteFault
 
--- the same, or nothing was written since there was no memory, which is where `memory` is so
+-- What a sink took of a text, as `WritesText` has it; or nothing was written since there was no memory,
+-- which is where `memory` is so.
 pub data Says (memory : Type 0) (old new : Option (List ℕ)) (faults faults' : ℕ) (text : List ℕ) (own : End) : End → Type 0 where
   Said : (last : End) → WritesText old new faults faults' text own last → Says memory old new faults faults' text own last
   Untold : memory → new ≡ old → faults' ≡ faults → Says memory old new faults faults' text own end.NoMemory

@@ -1,4 +1,4 @@
-//! `audit N`: what stands in two looks is told.
+//! `audit N`: writes what stands in two looks.
 ghost use Rattle.std.specs.Prelude.{◌≡◌, ◌≤◌, ◌<◌, ℕ, List, Result};
 ghost use Rattle.std.specs.Io.KnownBytes.{prepend_known};
 ghost use Rattle.ipam_commands.specs.declared.audit_report.Report.{Report as LeftOver};
@@ -20,8 +20,8 @@ use std::thread::Threads;
 /// same word writes over a file: of the counts and affinities that are left over, those that both looks have
 /// alike, and how many blocks, owners and handles the second look has.
 ///
-/// Rows of two pages may have stood at two moments, so a look can have a count of a request that runs. What is
-/// told may be one too, where it was the same in both looks. Rules of several rows are not looked at: a daemon
+/// Rows of two pages may have stood at two moments, so a look can have a count of a request that runs. A line
+/// may be of one too, where it was the same in both looks. Rules of several rows are not looked at: a daemon
 /// opened its rows by them.
 pub fn audit<R: Threads + Sync, K: Sink, L: Link>(
     rt: &R,

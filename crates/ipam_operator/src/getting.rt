@@ -1,4 +1,4 @@
-//! `get` and `get KIND`: the rows are told.
+//! `get` and `get KIND`: writes the rows.
 ghost use Rattle.std.specs.Prelude.{◌≡◌, ℕ, List, [], Result};
 ghost use Rattle.std.specs.Io.KnownBytes.{prepend_known};
 ghost use Rattle.std.specs.List.Sorted.{IsPermutation, IsSortedBy};
@@ -63,7 +63,7 @@ pub fn get<K: Sink, L: Link>(
     }
 }
 
-/// The rows that are told, by the bytes of their keys.
+/// Asks for all rows, or for those of the kind, and sorts them by the bytes of their keys.
 fn come_to<L: Link>(
     alloc: Global,
     link: &mut L,

@@ -104,7 +104,8 @@ fn ask_once<L: Link>(
     }
 }
 
-/// The same where this is the revision before the rows.
+/// Asks for all rows, and then for the revision. None where it is another one than `before`, which it was
+/// before them.
 fn ask_between<L: Link>(
     alloc: Global,
     link: &mut L,
@@ -131,7 +132,8 @@ fn ask_between<L: Link>(
     }
 }
 
-/// The same where the rows came.
+/// Asks for the revision once the rows came. None where it is another one than `before`, which it was
+/// before them.
 fn ask_after<L: Link>(
     alloc: Global,
     link: &mut L,

@@ -71,8 +71,8 @@ fn push_rows(
     Ok(true)
 }
 
-/// Whether there are more rows than those of the page, with which there are this many. None where the reply
-/// does not say it, where there are too many, or where more are told and none came.
+/// Whether there are more rows than those of the page, with which there are this many. None where the
+/// member is no truth value, where there are too many rows, or where more are to come and none came.
 #[tactic(auto, unfolding(crate::specs::Page::more_of))]
 fn more_of(json: &Value, before: usize, after: usize) -> Option<bool>
     ensures value { result ≡ more_of (view json.now) before after }

@@ -38,7 +38,8 @@ pub fn ask_rows<L: Link>(
     ask_kinds(alloc, link, &mut lines, kinds)
 }
 
-/// The same where these bytes were read already.
+/// Asks the daemon for all rows of these kinds, for those of one kind after the other, page by page.
+/// `lines` has the bytes of the link that were read already.
 pub fn ask_kinds<L: Link>(
     alloc: Global,
     link: &mut L,
@@ -145,7 +146,7 @@ fn ask_page<L: Link>(
     }
 }
 
-/// The same with the text that asks for the page.
+/// Asks for a page by this text, appends its rows, and answers whether there are more.
 fn ask_text<L: Link>(
     alloc: Global,
     link: &mut L,

@@ -26,7 +26,7 @@ use std::alloc::{AllocError, Global};
 pub enum Picks {
     /// All of it.
     All,
-    /// That of an ordinal, where it is held with the stamp.
+    /// The address of this ordinal, where the handle holds it with this stamp.
     Stamped { ordinal: u16, stamp: u64 },
 }
 

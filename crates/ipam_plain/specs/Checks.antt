@@ -45,14 +45,15 @@ SecondNotRecorded = goes held_base
     ∷ get_block 0 slot0 (told.Found 3)
     ∷ ends_with (name.Get (key.Block slot0)) (told.Found 3) (answer.NotRecorded (v4 1) 3))
 
--- an address that lies in no pool is told with the moment at which the pools were read
+-- the answer for an address that lies in no pool has the moment at which the pools were
+-- read
 abbrev pub InNoPool : Type 0
 InNoPool = goes held_base
     (Begin 0 (Check (codes "n.c1") (v4 8 ∷ [])) ∷ turns 0 1)
     (entry.Began 0 (Check (codes "n.c1") (v4 8 ∷ []))
     ∷ ends_with (name.Get key.Pools) (told.Found 1) (answer.NotRecorded (v4 8) 1))
 
--- also after one that is held
+-- an address that lies in no pool, after one that is held
 abbrev pub SecondInNoPool : Type 0
 SecondInNoPool = goes held_base
     (Begin 0 (Check (codes "n.c1") (v4 0 ∷ v4 8 ∷ [])) ∷ turns 0 2)

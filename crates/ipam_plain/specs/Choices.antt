@@ -295,7 +295,8 @@ NotAdmitted = choice_of (in_zone (codes "east")) (seen_in western_pool defaults 
 abbrev pub WithoutLabels : Type 0
 WithoutLabels = choice_of anything (seen_in western_pool defaults [] []) ≡ Nothing
 
--- also where it is named, or an address of it is asked for
+-- a pool that does not admit the node gives nothing, even where it is named, or an address
+-- of it is asked for
 abbrev pub NamedAndNotAdmitted : Type 0
 NamedAndNotAdmitted =
     choice_of (naming (codes "p" ∷ [])) (seen_in western_pool defaults [] []) ≡ Nothing

@@ -64,7 +64,7 @@ LiveInFirstList = goes held_base
     ∷ list_blocks (Some (collected 1 3 []))
     ∷ [])
 
--- and so is one of the second list
+-- a handle of the second list keeps its address
 abbrev pub LiveInSecondList : Type 0
 LiveInSecondList = goes held_base
     (Begin 0 collect_all ∷ turns 0 1 ++ Feed 0 0 (codes "n.c1" ∷ []) ∷ turns 0 1)

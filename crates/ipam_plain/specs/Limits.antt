@@ -71,7 +71,7 @@ SixtyFourLostRaces =
 abbrev pub claims : List Event
 claims = turns 0 9
 
--- and its claim is released before it looks again
+-- the claim is released before the ADD looks again
 abbrev pub released : List Event
 released = Begin 1 (Release (codes "a") slot0) ∷ turns 1 6
 

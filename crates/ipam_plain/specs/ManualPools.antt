@@ -67,7 +67,7 @@ MadeManual = goes ready_base
     ∷ did 0 (name.List kind.Block) (told.Listed 1) None (Some (answer.Exhausted (scan_from V4 4)))
     ∷ [])
 
--- a mode that need not be said is not said
+-- the automatic mode is not written, and a text that has it is refused
 abbrev pub saying_automatic : List ℕ
 saying_automatic =
     codes "{\"pools\":[{\"assignmentMode\":\"Automatic\",\"blockSize\":30,\"cidr\":\"10.0.0.0/29\",\"disabled\":false,\"name\":\"p\"}]}"

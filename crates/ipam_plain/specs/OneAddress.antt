@@ -12,7 +12,7 @@ use Rattle.ipam_model.specs.History.{Base}
 use Rattle.ipam_model.specs.Reads.{StoredRecord}
 use Rattle.ipam_plain.specs.Setting.{v4, slot0, slot1, pool_row, held_base, base_of, block_record, affinity_of, handle_of, held, queue4, add_this, turns, did, did_read, get_affinity, get_handle, created, updated, given_this, goes, three_reads, second_given}
 
--- the address is held, and the holder is told
+-- the address is held, and the answer names the holder
 abbrev pub TakenAddress : Type 0
 TakenAddress = goes held_base
     (Begin 0 (add_this (codes "n.c2") (codes "a") (v4 0)) ∷ turns 0 3)
@@ -104,7 +104,7 @@ nobodys_held_base = base_of
     ∷ (4, handle_of (codes "n.x") slot0 1)
     ∷ []) 4
 
--- and where it isn't, it is as another node's
+-- nobody's block, in which an address is held, is not the node's where affinity is strict
 abbrev pub NobodysIsNotAffine : Type 0
 NobodysIsNotAffine = goes nobodys_held_base
     (Begin 0 (add_this (codes "n.c1") (codes "a") (v4 1)) ∷ turns 0 3)

@@ -38,7 +38,7 @@ Freed = Frees 1
     ∷ name.Delete (key.Handle (codes "n.c1")) 4 ∷ [])
     freed.Freed
 
--- the same handle holds the address, but with another stamp
+-- the handle holds the address, but with another stamp
 abbrev pub GoneByStamp : Type 0
 GoneByStamp = Frees 2 (read 3 ∷ []) (get_block ∷ []) freed.Gone
 

@@ -35,7 +35,7 @@ ReadyFromAny = Probed (codes "a") [] (answer.Ready (scan_from V4 1 ∷ []))
 abbrev pub ReadyFromNamed : Type 0
 ReadyFromNamed = Probed (codes "a") (codes "p" ∷ []) (answer.Ready (scan_from V4 1 ∷ []))
 
--- also where a block must be claimed first
+-- a node is ready too where it must claim a block first
 abbrev pub ReadyForAnotherNode : Type 0
 ReadyForAnotherNode = Probed (codes "b") [] (answer.Ready (scan_from V4 1 ∷ []))
 

@@ -29,7 +29,7 @@ first_taken last block count c w =
     (Some (given (v4 0) c w))
     ∷ []
 
--- The same after a claim of the block, which is nobody's and is confirmed.
+-- The ADD claims the block, which is nobody's, confirms the claim, and takes the first address.
 abbrev pub claimed_anew : (last block count c w : ℕ) → List Entry
 claimed_anew last block count c w =
     five_reads 0 0 1

@@ -112,7 +112,7 @@ ready_rows =
 abbrev pub ready_base : Base
 ready_base = base_of ready_rows 3
 
--- the same where the first address is held by n.c1
+-- the ready block, whose first address is held by n.c1
 abbrev pub held_base : Base
 held_base = base_of
     (pool_row
@@ -216,7 +216,7 @@ first_given slot answer =
     (block_record slot0 (Some (codes "a")) (held 0 (codes "n.c1") 1 ∷ []) (1 ∷ 2 ∷ 3 ∷ []) 1) answer
     ∷ []
 
--- and freed again
+-- the first address of the block, which n.c1 holds, is freed, and the handle is deleted
 abbrev pub first_freed : (slot : ℕ) → Answer → List Entry
 first_freed slot answer =
     get_block slot slot0 (told.Found 5)
@@ -246,7 +246,7 @@ abbrev pub given : AddrValue → (c w : ℕ) → Answer
 given address c w = answer.Added
     (record { address = address; c = c; p = c + 1; r = c + 2; f = c + 3; b = c + 4; w = w } ∷ [])
 
--- the same for an address that was asked for
+-- the address that was asked for was given by the reads from the moment c on, and written at w
 abbrev pub given_this : AddrValue → (c w : ℕ) → Answer
 given_this address c w = answer.AddedThis
     (record { address = address; c = c; p = c + 1; b = c + 2; w = w })

@@ -32,8 +32,8 @@ pub fn a_collection_alone_comes_to_what_the_records_say()
     ensures { CollectAloneLaw }
 {}
 
-/// Whatever request runs alone, but a release and a change by an operator, which are only said by
-/// their calls.
+/// A request that runs alone comes to what its function of the records says. A release and a change by
+/// an operator have no such function: only their calls say what they do.
 pub fn a_request_alone_comes_to_what_the_records_say()
     ensures { AloneLaw }
 {}

@@ -13,7 +13,7 @@ abbrev pub onto : List Entry → List Entry → List Entry
 onto [] history = history
 onto (new ∷ made) history = onto made (new ∷ history)
 
--- how a refusal is told
+-- the fault that stands for a refusal
 abbrev pub fault_of : EventRefusal → PlayFault
 fault_of Busy = fault.Busy
 fault_of Idle = fault.Idle

@@ -26,7 +26,8 @@ row_gathered e = record { key = e.0; revision = e.1.revision; body = e.1.body }
 abbrev pub rows_gathered : BTreeMap (List ℕ) Content → List Row
 rows_gathered rows = map row_gathered rows.entries
 
--- the same rows in the order of their keys, and the counter that they are opened with
+-- the rows that were gathered, in the order of their keys, and the counter that they are
+-- opened with
 pub record Gathers (gathering : Gathering) (gathered : Gathered) : Type 0 where
   pub same_rows : IsPermutation gathered.rows (rows_gathered gathering.rows)
   pub counter : gathering.counter ≡ counter_of gathered

@@ -37,7 +37,8 @@ pub record IsAt (script : Script) (first now : Option (List ℕ)) (game : Game) 
   pub wrote : Wrote first now (held_by game) past
   pub to_come : IsToCome script game.player past rest
 
--- the same, and the base was opened
+-- the base was opened, the rest of the script is to come, and what came before was
+-- written or is held
 pub record IsGoing (script : Script) (first now : Option (List ℕ)) (game : Game) (rest : Script) : Type 0 where
   pub past : List Entry
   pub wrote : Wrote first now (held_by game) past

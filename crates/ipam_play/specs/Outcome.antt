@@ -22,7 +22,7 @@ outcome cluster script =
     let happened = course cluster (events_in script.steps) in
     record { entries = happened.entries; ending = ending_of script happened.refused }
 
--- the same after other entries
+-- the outcome after other entries
 abbrev pub behind : List Entry → Outcome → Outcome
 behind past coming = record { entries = past ++ coming.entries; ending = coming.ending }
 

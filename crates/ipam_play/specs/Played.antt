@@ -16,7 +16,7 @@ pub data Ending : Type 0 where
   Whole : Ending
   -- the line of this number is refused
   LineRefused : (number : ℕ) → LineRefusal → Ending
-  -- the base breaks a rule, which is told of a key
+  -- the base breaks a rule, first at this key
   NotOpened : (rule : ℕ) (about : List ℕ) → Ending
 
 -- ---- the base

@@ -34,7 +34,7 @@ pub record IsBaseOpened (base : Gathered) (store : Datastore) : Type 0 where
   pub are_texts : AreTextsOfBase texts base
   pub opens : OpensAs texts store
 
--- the base breaks this rule, of which this key is told
+-- the base breaks this rule, first at this key
 pub record IsBroken (base : Gathered) (rule : ℕ) (about : List ℕ) : Type 0 where
   pub texts : Texts
   pub are_texts : AreTextsOfBase texts base
@@ -119,7 +119,7 @@ pub record IsBegunWith (open_cluster : OpenCluster) (before after : List Entry) 
   pub stands : StandsFor open_cluster.cluster (base_of store) (onto made [])
   pub made_by : course (cluster_of store []) events ≡ record { entries = made; refused = None }
 
--- the same of a player
+-- the player plays over the base that was opened, and all of the events happened
 pub record IsBegun (new : Player) (base : Gathered) (events : List Event) : Type 0 where
   pub store : Datastore
   pub playing : IsPlaying new base store []

@@ -49,7 +49,8 @@ IsNext (Err fault) now after = ⊤
 abbrev pub coming : ScriptLines → Option (List ℕ) → Option (List LineReading)
 coming lines left = option_map (readings_from lines.before.bytes) (prepend_known lines.lines left)
 
--- the same where the readings are known, and they stay known
+-- what an answer says of the readings to come, and of those after it, where they are known; they
+-- stay known
 abbrev pub IsNextOf : Answer → (now after : Option (List LineReading)) → Type 0
 IsNextOf answer None after = ⊤
 IsNextOf answer (Some now) after = (behind : List LineReading) × (after ≡ Some behind) × IsNext answer now behind
@@ -62,7 +63,7 @@ IsTold (Ok (next.Refused why)) reading = reading ≡ Err why
 IsTold (Ok next.End) reading = ⊥
 IsTold (Err fault) reading = fault ≡ Memory
 
--- the same where they are the last
+-- what the bytes of the last line say of an answer
 abbrev pub IsLastTold : Answer → LineReading → Type 0
 IsLastTold (Ok (next.Line line)) reading = ⊥
 IsLastTold (Ok (next.Last line)) reading = reading ≡ Ok line

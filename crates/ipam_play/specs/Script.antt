@@ -24,11 +24,11 @@ nothing_gathered = record { rows = []; counter = None }
 abbrev pub rows_have_key : List ℕ → List RowText → Bool
 rows_have_key key rows = list_any (λ (row : RowText). bytes_eq key row.key) rows
 
--- the same with one row more
+-- what was gathered, with one row more
 abbrev pub with_base_row : RowText → Gathered → Gathered
 with_base_row row base = record base { rows = base.rows ++ row ∷ [] }
 
--- the same with this counter
+-- what was gathered, with this counter
 abbrev pub with_counter : ℕ → Gathered → Gathered
 with_counter counter base = record base { counter = Some counter }
 

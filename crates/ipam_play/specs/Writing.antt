@@ -86,7 +86,8 @@ pub record WroteSoFar (script : Script) (first now : Option (List ℕ)) : Type 0
   pub is_so_far : IsSoFar script entries
   pub written : now ≡ append_known first (journal_text entries ++ read_fault_text)
 
--- the same of the lines that were read whole of the source
+-- The lines that were read whole of the source have entries, whose lines were written, and after them
+-- the fault.
 pub record WritesSoFar (was left first now : Option (List ℕ)) : Type 0 where
   pub lines : List ℕ
   pub are_read : AreReadWhole lines was left

@@ -10,7 +10,7 @@ use ipam_text::Text;
 pub(crate) enum Halt {
     /// The line is refused.
     Refused(LineRefusal),
-    /// The base breaks this one of the ten rules, which is told of this key.
+    /// The base breaks this one of the ten rules, first at this key.
     NotOpened(u8, Text),
     /// A write failed.
     Write,

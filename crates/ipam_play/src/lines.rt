@@ -87,8 +87,8 @@ impl ScriptLines {
         }
     }
 
-    /// There was no memory for the next line. It is refused where the bytes of it that are held are too
-    /// many already.
+    /// What comes of a line for which there was no memory. The line is refused where the bytes of it
+    /// that are held are too many already.
     fn wanting(&self) -> Result<Next, ScriptFault>
         ensures refused { IfOk result (λ n. n ≡ Next.Refused LineRefusal.Long) }
         ensures fault { IfErr result (λ e. e ≡ ScriptFault.Memory) }

@@ -12,7 +12,7 @@ use ipam_io::{Failed, Sink};
 use ipam_model::Entry;
 use std::alloc::{AllocError, Global};
 
-/// So many bytes are worth a write.
+/// How many bytes are worth a write.
 const LARGE: usize = 65_536;
 
 /// Lines of a journal that are to be written.

@@ -144,7 +144,7 @@ impl Player {
 }
 
 /// Opens the base that was gathered. `Memory` is returned only where the base or its opening found none: a base
-/// that is refused is told so.
+/// that breaks a rule gives `Open`, with the rule and the key.
 fn opened<T: OpensBase + Drop>(alloc: T, gathering: &Gathering) -> Result<OpenCluster, PlayFault>
     ensures opens { (base : Gathered) → Gathers gathering.now base → IfOk result (λ opened. (store : Datastore)
         × IsBaseOpened base store × StandsFor opened.cluster (base_of store) []) }

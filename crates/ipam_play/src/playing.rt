@@ -100,7 +100,7 @@ fn turn(
     }
 }
 
-/// So many turns. Where one does not happen, those before it stay.
+/// Does so many turns. Where one does not happen, those before it stay.
 fn turns(
     alloc: Global,
     cluster: &mut OpenCluster,

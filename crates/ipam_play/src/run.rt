@@ -39,7 +39,7 @@ pub fn play<S: Source, K: Sink>(alloc: Global, source: &mut S, sink: &mut K) -> 
     play_lines(alloc, source, sink, &mut lines, &mut game)
 }
 
-/// The same, by lines of which none was read and a game in which none was played.
+/// Plays the script by lines of which none was read and a game in which none was played.
 fn play_lines<S: Source, K: Sink>(
     alloc: Global,
     source: &mut S,

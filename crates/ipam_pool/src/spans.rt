@@ -101,7 +101,7 @@ fn span_of(cidr: Cidr) -> Span
     }
 }
 
-// The same numbers as spans that do not touch, from spans by ascending first number.
+// Spans that hold these numbers and do not touch, from spans by ascending first number.
 fn merged(alloc: Global, spans: &[Span]) -> Result<Vec<Span>, AllocError>
     requires ordered { All IsOrdered spans.now }
     requires ascending { IsNonDecreasingBy (λ s. s.first) spans.now }

@@ -35,7 +35,7 @@ id_of text = only_if (is_handle_text text) text
 abbrev pub cidr_at : List ℕ → Data → Option CidrValue
 cidr_at name d = option_and_then cidr_of (text_at name d)
 
--- the same, where a block may have it
+-- the CIDR whose text has this name, if a block may have it
 abbrev pub block_cidr_at : List ℕ → Data → Option CidrValue
 block_cidr_at name d = option_and_then block_cidr_of (text_at name d)
 

@@ -78,7 +78,7 @@ pub(crate) fn cidr_at(value: &Value, name: &str) -> Option<Cidr>
     cidr_of(text)
 }
 
-/// The same, where a block may have it.
+/// The CIDR whose text has this name, if a block may have it.
 pub(crate) fn block_at(value: &Value, name: &str) -> Option<Cidr>
     ensures { result ≡ block_cidr_at name.now (view value.now) }
 {

@@ -82,7 +82,7 @@ write_of (Create new) revision = Some (Put revision new)
 write_of (Update new seen) revision = Some (Put revision new)
 write_of (Delete key seen) revision = Some (Remove revision key)
 
--- the write that may be applied once this was said to the call
+-- the write that may be applied where this is the reply to the call
 abbrev pub write_granted : Call → Said → Option Write
 write_granted call (Can revision) = write_of call revision
 write_granted call _ = None

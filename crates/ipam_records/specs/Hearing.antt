@@ -1,4 +1,4 @@
--- What a procedure may be told.
+-- Which replies a procedure may hear.
 use Rattle.std.specs.Prelude.{◌≡◌, ◌≤◌, Option, Some}
 use Rattle.ipam_block.specs.HandleOperations.{count_of}
 use Rattle.ipam_records.specs.declared.key.Key.TheVariants as key
@@ -27,7 +27,7 @@ abbrev pub CoversCredit : Option Credit → Call → Said → Type 0
 CoversCredit (Some credit) (call.Get (key.Handle id)) said = id ≡ credit.handle → Covers credit said
 CoversCredit _ _ _ = Unit {0}
 
--- the word asks, and this may be said to its call
+-- the word asks, and its call may have this reply
 abbrev pub MayHear : {A : Type 0} → Word A → Said → Type 0
 MayHear (Ends answer) said = ⊥
 MayHear (Asks label call next) said = CanBeSaid call said × CoversCredit label.credit call said

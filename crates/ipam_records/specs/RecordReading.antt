@@ -43,7 +43,7 @@ fault_of_block key in_block.Memory = fault.Memory
 abbrev pub if_key : List ℕ → Record → Result Record TextFault
 if_key key found = if bytes_eq (key_bytes (key_of found)) key then Ok found else Err fault.Key
 
--- the same of what was read of a body, or else the fault
+-- the record of what was read of a body, where its key has this text, or else the fault
 abbrev pub keyed : {A : Type 0} → (A → Record) → List ℕ → Result A BodyFault → Result Record TextFault
 keyed make key (Ok value) = if_key key (make value)
 keyed make key (Err body) = Err (fault_of_body body)

@@ -5,7 +5,7 @@ use Rattle.ipam_records.specs.declared.call.Reply.{Reply}
 use Rattle.ipam_records.specs.declared.call.Reply.TheVariants as reply
 use Rattle.ipam_records.specs.Listing.{rows_of}
 
--- what is said to a call, as `Reply` has it, with the records themselves in place of loans
+-- a reply to a call, as `Reply` has it, with the records themselves in place of loans
 pub data Said : Type 0 where
   Found : ℕ → Record → Said
   Missing : Said

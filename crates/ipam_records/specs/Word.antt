@@ -5,7 +5,7 @@ use Rattle.ipam_records.specs.Said.{Said}
 use Rattle.ipam_records.specs.Label.{CallLabel, idle}
 
 -- an answer; or a call, with where the procedure stands before it and what follows its moment and
--- what is said to it; or a wait for a list of handle ids
+-- its reply; or a wait for a list of handle ids
 pub data Word (A : Type 0) : Type 0 where
   Ends : A → Word A
   Asks : CallLabel → Call → (ℕ → Said → Word A) → Word A
@@ -34,7 +34,7 @@ waits (Ends answer) = false
 waits (Asks label call next) = false
 waits (Waits next) = true
 
--- what is left once this was said to the call at this moment
+-- what is left once the call had this reply at this moment
 abbrev pub after_reply : {A : Type 0} → Word A → ℕ → Said → Word A
 after_reply (Ends answer) moment said = Ends answer
 after_reply (Asks label call next) moment said = next moment said

@@ -1,4 +1,5 @@
-/// Why two texts are not those of a sound record's key and body. Of several the first is told.
+/// Why two texts are not those of a sound record's key and body. Of several reasons it is the
+/// first, in the order of the variants.
 #[derive(Clone, Copy, Debug, PartialEq, Eq)]
 pub enum TextFault {
     /// The first is no key's text, or the body has not the form of the kind that the key names.

@@ -47,7 +47,7 @@ visit_each id p (visit ∷ rest) = visit_one (visit_each id p rest) id p visit
 abbrev pub looks_at : List ℕ → Looking → Word CheckAnswer
 looks_at id l = visit_one (visit_each id l.moment l.others.items) id l.moment (Slot l.address l.cidr)
 
--- what follows what was said
+-- what follows the reply to the look at an address
 abbrev pub look_heard : List ℕ → Looking → (moment : ℕ) → Said → Word CheckAnswer
 look_heard id l moment said = look_said (visit_each id l.moment l.others.items) id l.address moment said
 

@@ -127,7 +127,7 @@ shaped_in Unreserve d = option_map (λ name. request.Admin (change.Unreserve nam
 shaped_in Config d = option_map (λ settings. request.Admin (change.Config settings)) (settings_in d)
 shaped_in Scope d = None
 
--- the same of an object whose members are all known
+-- the request that an object of this shape holds, where its members are all known
 unfoldable pub known_in : Shape → Data → Option Request
 known_in shape d = do
   members ← as_object d
@@ -159,7 +159,7 @@ request_reading text = do
   d ← read text
   sound_request_in d
 
--- the same of bytes that may be no UTF-8
+-- the request whose text these bytes are; bytes that are no UTF-8 have none
 unfoldable pub request_of_bytes : List ℕ → Option Request
 request_of_bytes bytes = do
   text ← only_if (is_utf8 bytes) bytes

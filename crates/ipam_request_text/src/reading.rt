@@ -30,7 +30,8 @@ pub fn read_request(alloc: Global, text: &[u8]) -> Result<Request, AskFault>
     }
 }
 
-/// The same of a text that is known to be UTF-8.
+/// The request whose text this is, in any spelling of its JSON. Fails with `Unreadable` where the
+/// text is no request's, and with `Memory`.
 #[tactic(auto, unfolding(crate::specs::Reading::request_reading))]
 pub fn read_request_text(alloc: Global, text: &str) -> Result<Request, AskFault>
     ensures read { IfOk result (λ request. request_reading text.now ≡ Some request) }

@@ -22,7 +22,7 @@ use Rattle.ipam_resources.specs.Values.{name_in, size_in, bound_in, selector_val
 
 -- ---- a pool
 
--- the pool with what every pool may be told: its name, CIDR and size, and whether it is disabled
+-- the pool with what every pool may state: its name, CIDR and size, and whether it is disabled
 unfoldable pub plain_pool : Data → Result Pool Member
 plain_pool d = do
   name ← required name_in member.Name d

@@ -44,7 +44,7 @@ mode_of text =
 unfoldable pub mode_value_in : Data → Option Mode
 mode_value_in d = option_and_then mode_of (as_str d)
 
--- how long the slots' prefix is where nothing is said of it
+-- the prefix length of a pool's slots where the resource states none
 abbrev pub default_size : Family → ℕ
 default_size V4 = 26
 default_size V6 = 122

@@ -72,7 +72,7 @@ fn bound_or(json: &Value, default: u32, member: Member) -> Result<u32, Member>
     }
 }
 
-/// The name that the configuration is told of by.
+/// The name of the configuration: `default` where the resource states none.
 #[tactic(auto, unfolding(crate::specs::Resources::config_name, crate::specs::Members::optional))]
 fn config_name(json: &Value) -> Result<&str, Member>
     ensures { result_map_both (λ t. t.now) (λ m. m) result ≡ config_name (view json.now) }

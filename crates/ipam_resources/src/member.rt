@@ -39,8 +39,9 @@ pub enum Member {
 }
 
 impl Member {
-    /// The member that it stands in, where it isn't one of the resource itself.
-    pub(crate) fn part(self) -> Option<&'static str>
+    /// The name of the member that it stands in: `metadata` or `spec`. None of `kind` and `items`, which stand in the
+    /// resource itself.
+    pub fn part(self) -> Option<&'static str>
         ensures { option_map (λ t. t.now) result ≡ part_of self }
     {
         match self {
@@ -51,7 +52,8 @@ impl Member {
         }
     }
 
-    pub(crate) fn name(self) -> &'static str
+    /// Its own name, without that of what it stands in: `cidr` of `spec.cidr`.
+    pub fn name(self) -> &'static str
         ensures { result.now ≡ member_name self }
     {
         match self {

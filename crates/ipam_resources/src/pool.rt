@@ -89,7 +89,7 @@ fn plain_pool(json: &Value) -> Result<(&str, Cidr, u8, bool), Member>
     Ok((name, cidr, size, disabled))
 }
 
-/// The size of slots where nothing is said of it.
+/// The prefix length of a pool's slots where the resource states none.
 fn default_size(family: Family) -> u8
     ensures { result ≡ default_size family }
 {

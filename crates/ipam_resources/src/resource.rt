@@ -7,7 +7,7 @@ use ipam_text::Text;
 pub struct Resource {
     /// The kind that the resource states.
     pub kind: ResourceKind,
-    /// The name that it is told of by.
+    /// The resource's name, which the line of its outcome has.
     pub name: Text,
     /// What an operator's request changes: a pool, a reservation or the configuration.
     pub change: Admin,

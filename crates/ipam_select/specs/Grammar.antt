@@ -13,7 +13,7 @@ use Rattle.ipam_select.specs.declared.token.Mark.TheVariants.{Open, Close, OpenB
 
 -- ---- phrases
 
--- what is said of a key
+-- a comparison of a key's value
 pub data Comparison : Type 0 where
   -- `== V`
   equals : List ℕ → Comparison
@@ -38,7 +38,7 @@ mutual
     everything : Literal
     -- `has(KEY)`
     present : List ℕ → Literal
-    -- a key and what is said of it
+    -- a key and a comparison of its value
     compared : List ℕ → Comparison → Literal
     -- a choice in parentheses
     grouped : Choice → Literal

@@ -61,7 +61,8 @@ fn has_key(tokens: &mut VecDeque<Token>) -> Option<Selector>
     }
 }
 
-/// What is said of a key, with `!` at most so deep.
+/// The comparison of this key that the tokens begin with. A negative one takes one of the
+/// levels of `!` that are left, `depth`.
 fn compared(
     alloc: Global,
     tokens: &mut VecDeque<Token>,

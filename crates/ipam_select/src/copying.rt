@@ -7,7 +7,7 @@ use ipam_text::Text;
 use std::alloc::{AllocError, Global};
 
 impl Selector {
-    /// The same selector in memory of its own.
+    /// A copy of the selector, in memory of its own.
     #[cycle(copy)]
     pub fn copy(&self, alloc: Global) -> Result<Selector, AllocError>
         ensures { IfOk result (λ copied. formula copied ≡ formula self.now) }

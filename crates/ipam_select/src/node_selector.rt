@@ -37,7 +37,7 @@ impl Model for NodeSelector {
 }
 
 impl NodeSelector {
-    /// The same nodes as the selector's, with nothing copied.
+    /// The nodes that the selector names. Takes no memory.
     pub fn new(alloc: Global, selector: Selector) -> NodeSelector
         ensures { result ≡ formula selector }
     {

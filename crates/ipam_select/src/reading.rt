@@ -173,7 +173,7 @@ fn close(tokens: &mut VecDeque<Token>, inner: Selector) -> Option<Selector>
     }
 }
 
-/// One member stands for itself.
+/// The conjunction of the members. One member stands for itself.
 fn one_or_all(mut members: Vec<Selector>) -> Selector
     ensures { formula result ≡ one_or conjunction (formulas members.items) }
 {
@@ -183,7 +183,7 @@ fn one_or_all(mut members: Vec<Selector>) -> Selector
     Selector::And(members)
 }
 
-/// One member stands for itself.
+/// The disjunction of the members. One member stands for itself.
 fn one_or_any(mut members: Vec<Selector>) -> Selector
     ensures { formula result ≡ one_or disjunction (formulas members.items) }
 {

@@ -79,7 +79,7 @@ fn is_quotable(value: &Text) -> bool
     bytes.len() <= LABEL_VALUE_BYTES_MAX && fits_quotes(bytes)
 }
 
-/// One kind of quote isn't in the value.
+/// Whether a kind of quote isn't in the value.
 fn fits_quotes(value: &[u8]) -> bool
     ensures { result ≡ fits_quotes value.now }
 {

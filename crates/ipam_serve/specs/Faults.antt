@@ -15,7 +15,7 @@ abbrev pub answer_ran : Ran → Option Answer
 answer_ran (Answered told) = Some told
 answer_ran Waits = None
 
--- the answer that what was fed came to; that it waits again is told as want of memory
+-- the answer that what was fed came to; that it waits again counts as want of memory
 abbrev pub found_of : Ran → Result (Option Answer) Broken
 found_of (Answered told) = Ok (Some told)
 found_of Waits = Err Memory

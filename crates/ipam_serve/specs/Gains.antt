@@ -71,7 +71,8 @@ pub record Spends (spared : ℕ) (old new : PassValue) : Type 0 where
   pub entries : List Entry
   pub took : TookTurns old entries spared new
 
--- The pass took at most one turn, in which it made sure of what it was told of. Its slot gained nothing.
+-- The pass took at most one turn, in which it made sure of all that it had learned. Its slot gained
+-- nothing.
 pub record Settles (old new : PassValue) : Type 0 where
   pub same : IsSamePass old new
   pub gained : Gained old.slot old.seen [] new.seen

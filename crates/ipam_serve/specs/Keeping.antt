@@ -53,7 +53,7 @@ module _ {D : Type 0} (tells : Tells D) (gives : Gives D) (faults : D → ℕ) w
 -- ---- all that comes at the keeper
 
 -- What came of a line's calls, by the line's answer and the pass before and after it; what a pass stands for
--- once it made sure of all that it was told of; and what a turn was in which the keeper failed to, or found no
+-- once it made sure of all that it had learned; and what a turn was in which the keeper failed to, or found no
 -- memory.
 pub record AtKeeper : Type 1 where
   pub came : Option Answer → (old new : PassValue) → Type 0

@@ -1,4 +1,4 @@
--- What a session is told of a datastore.
+-- What a session learns of a datastore.
 use Rattle.std.specs.Prelude.{◌≡◌, ℕ, List}
 use Rattle.ipam_records.specs.Datastore.{Datastore}
 use Rattle.ipam_show.specs.declared.usage.PoolUsage.{PoolUsage}

@@ -42,7 +42,7 @@ talk_at server opened asked coming written = record { server = server; opened = 
 abbrev pub AsksOnce : (old new : Talk) → Type 0
 AsksOnce old new = new.asked ≡ option_map next_count old.asked
 
--- and nothing else is another
+-- the talk, whose gate was asked once more before a line
 abbrev pub asked_once : Talk → Talk
 asked_once talk = record talk { asked = option_map next_count talk.asked }
 
@@ -61,14 +61,14 @@ abbrev pub server_before : PassValue → Server → Server
 server_before pass server = record { taker = record { pass = pass; turns = server.taker.turns }; ahead = server.ahead }
 
 module _ (at : AtKeeper) where
-  -- The line was done, which left this pass, and replied to. What it told rests on what this pass was told of.
+  -- The line was done, which left this pass, and replied to. The reply rests on what this pass had learned.
   pub record ToldLine (line : List ℕ) (reply : Reply) (old : Talk) (middle : PassValue) (new : Talk) : Type 0 where
     pub replies : Replies (asked_by line) reply old.server (server_before middle new.server)
     pub opened : TellsOpened old.opened (asked_by line) reply
     pub keeper : at.came replies.answer old.server.taker.pass middle
     pub settles : Settles middle new.server.taker.pass
 
-  -- The gate was asked, the line was read and done, all that was told of it was made sure of, and then its
+  -- The gate was asked, the line was read and done, all that the pass had learned was made sure of, and then the
   -- reply was written. The pass knows that it is sure.
   pub record Exchanges (x : Exchange) (old new : Talk) : Type 0 where
     pub asks : AsksOnce old new
@@ -95,7 +95,7 @@ pub data Rest : Type 0 where
   Unsettled : (line : List ℕ) → Reply → Rest
   Untold : (line : List ℕ) → Reply → Rest
 
--- what the pass was told of is not known to be sure, and it has no turn to make sure of it, since one stays for
+-- what the pass has learned is not known to be sure, and it has no turn to make sure of it, since one stays for
 -- the last stop
 pub record CantSettle (pass : PassValue) : Type 0 where
   pub few : pass.left < 2
@@ -123,8 +123,8 @@ module _ (at : AtKeeper) where
   Unsettles end.Memory old new = at.starved old new
   Unsettles end.KeeperFault old new = at.failed old new
 
-  -- the gate was asked, the line was read and done, what was told of it was not made sure of, and nothing
-  -- of its reply was written
+  -- the gate was asked, the line was read and done, what the pass had learned was not made sure of, and nothing
+  -- of the reply was written
   pub record LeavesUnsettled (how : SessionEnd) (line : List ℕ) (reply : Reply) (old new : Talk) : Type 0 where
     pub asks : AsksOnce old new
     pub reads : ReadsLine line old.coming new.coming
@@ -133,8 +133,8 @@ module _ (at : AtKeeper) where
     pub why : Unsettles how middle new.server.taker.pass
     pub writes : new.written ≡ old.written
 
-  -- the gate was asked, the line was read and done, all that was told of it was made sure of, and then a front
-  -- part of its reply was written
+  -- the gate was asked, the line was read and done, all that the pass had learned was made sure of, and then a
+  -- front part of the reply was written
   pub record LeavesUntold (line : List ℕ) (reply : Reply) (old new : Talk) : Type 0 where
     pub asks : AsksOnce old new
     pub reads : ReadsLine line old.coming new.coming

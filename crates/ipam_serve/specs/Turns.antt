@@ -68,7 +68,8 @@ pub record TakesOne {T : Type 0} (result : Result T Broken) (old new : PassValue
   pub worn : OnWorn result ((new ≡ old) × (new.left < 2))
   pub not_halted : OnHalted result ⊥
 
--- the same, with what was told, or nothing where too few turns were left
+-- One turn was taken for a look, by which the slot gained nothing and what runs still does; or too few were
+-- left, and nothing was seen.
 pub record TakesLook {T : Type 0} (told : Option T) (old new : PassValue) : Type 0 where
   pub took : TookTurns old [] 1 new
   pub one : IfSome told (λ value. new.left + 1 ≡ old.left)

@@ -37,7 +37,7 @@ pub trait SessionGate {
         ensures line { lines self.new ≡ option_map (count_of_lines point) (lines self.old) };
 }
 
-/// It stops no session, and counts none of its passes.
+/// Stops no session, and counts none of its passes.
 impl SessionGate for OpenGate {
     ghost use Rattle.std.specs.Prelude.{⊤, None};
 
@@ -54,7 +54,8 @@ impl SessionGate for OpenGate {
     }
 }
 
-/// It stops a session at the passes that it was told, and does not tell how many were before a line.
+/// Stops a session at the passes whose numbers its list has. It does not tell how many passes were before a
+/// line.
 impl SessionGate for ListGate {
     ghost use Rattle.std.specs.Prelude.{None, Some};
 

@@ -300,7 +300,7 @@ fn answer_stop<R: Wait, D: Keeper>(
     }
 }
 
-/// All routes.
+/// Answers with all routes.
 fn answer_routes<R: Wait, D: Keeper>(
     rt: &R,
     shared: &Shared<D>,

@@ -38,7 +38,7 @@ pub struct Place {
     pub waits: u32,
 }
 
-/// Those who had a place in a queue at some time.
+/// The sessions that had a place in a queue at some time.
 #[derive(Clone, Copy)]
 pub struct Others {
     // the number of the place behind theirs
@@ -102,7 +102,7 @@ impl Queue {
         false
     }
 
-    /// Leaves the place, and lets the next one go on. Those are told who have a place by then.
+    /// Leaves the place, and lets the next one go on. Returns those who have a place by then.
     pub fn leave(&self, place: Place) -> Others {
         let next = place.number.saturating_add(1);
         if self.turn.fetch_max(next, Ordering::SeqCst) < next {

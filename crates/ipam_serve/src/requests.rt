@@ -132,8 +132,8 @@ fn step_on<R: Wait, D: Keeper, G: SessionGate>(
     }
 }
 
-/// Goes on with what runs to its answer. What waits though it was fed would never be answered; no
-/// request does, and one that did would be told as want of memory.
+/// Goes on with what runs to its answer. What waits though it was fed would never be answered; no request
+/// does, and one that did would fail with `Memory`.
 fn run_fed<R: Wait, D: Keeper, G: SessionGate, P: Patience>(
     rt: &R,
     alloc: Global,
@@ -239,8 +239,8 @@ pub fn run_call<R: Wait, D: Keeper, G: SessionGate, P: Patience>(
     }
 }
 
-/// Feeds the collection that waits its own list. Nothing else waits, and what did would be told as want
-/// of memory.
+/// Feeds the collection that waits its own list. Nothing else waits, and what did would fail with
+/// `Memory`.
 fn feed_own<R: Wait, D: Keeper, G: SessionGate, P: Patience>(
     rt: &R,
     alloc: Global,

@@ -199,7 +199,7 @@ fn next_line<L: Link>(
     }
 }
 
-/// Makes sure of all that the pass was told of, and then writes the reply.
+/// Makes sure of all that the pass has learned, and then writes the reply.
 fn settle_and_reply<R: Wait, D: Keeper, P: Patience, L: Link>(
     rt: &R,
     alloc: Global,

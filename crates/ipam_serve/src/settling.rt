@@ -10,7 +10,7 @@ use crate::patience::Patience;
 use ipam_shared::{KeepFault, Keeper, Pass, Shared, SharedFault};
 use std::sync::Wait;
 
-/// Makes sure of all that the pass was told of, by one turn where it doesn't know that it is sure already.
+/// Makes sure of all that the pass has learned, by one turn where it doesn't know that it is sure already.
 /// Those finish first that waited when the session's last request was left, so that one sync serves them all.
 pub(crate) fn settle<R: Wait, D: Keeper, P: Patience>(
     rt: &R,

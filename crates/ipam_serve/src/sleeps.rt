@@ -11,7 +11,7 @@ const LEAST_NANOS: u64 = 50_000;
 /// The most, in nanoseconds.
 const MOST_NANOS: u64 = 20_000_000;
 
-/// So often is the least time doubled at most.
+/// How often the least time is doubled at most.
 const MOST_DOUBLINGS: u32 = 8;
 
 /// Sleeps, for 50 microseconds up to 20 milliseconds. The time is eight times as long after each further

@@ -1,5 +1,5 @@
--- What a CNI call of a session comes to: which request it begins or what it is told at once, and
--- what it is told of the request's answer.
+-- What a CNI call of a session comes to: which request it begins or its reply at once, and its
+-- reply to the request's answer.
 use Rattle.std.specs.Prelude.{ℕ, List, Option, Some, None, option_map, Result, Ok, Err, Bool, true, false, IsTrue}
 use Rattle.ipam_model.specs.declared.answer.Answer.{Answer}
 use Rattle.ipam_model.specs.declared.request.Request.{Request}
@@ -34,7 +34,7 @@ abbrev pub begun_of : Ask → CallBegun
 begun_of (Tell text) = Told 0 text
 begun_of (Begin request version) = Runs request version
 
--- a call that is refused is told its error
+-- a call that is refused has its error as the reply
 abbrev pub begun_at : Result Look CniError → Option CallBegun
 begun_at (Err error) = Some (Told 1 (error_text error))
 begun_at (Ok found) = option_map begun_of (ask_of_call found)
@@ -65,6 +65,6 @@ call_reply_of (Collect collect) found = gc_reply_of found
 call_reply_of (Probe probe) found = status_reply_of found
 call_reply_of other found = cni_reply_of other found
 
--- the status and the text that it is told, in a version
+-- the status and the text of the call's reply, in a version
 abbrev pub call_reply_told : Request → Version → Answer → Option (ℕ × List ℕ)
 call_reply_told request version found = option_map (told version) (call_reply_of request found)

@@ -54,7 +54,7 @@ answered answer = option_map reply.Answered answer
 abbrev pub called_reply : ℕ × List ℕ → Reply
 called_reply told = reply.Called told.0 told.1
 
--- a call that runs is told of the answer to its request
+-- the reply to a call that runs is that of its request's answer
 abbrev pub call_replied : CallBegun → Option Answer → Option Reply
 call_replied (Told status text) answer = Some (reply.Called status text)
 call_replied (Runs request version) answer = do

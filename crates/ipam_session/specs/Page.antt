@@ -71,7 +71,7 @@ with_taken taken row =
 abbrev pub with_next : Option Key → SoFar → ℕ × Record → SoFar
 with_next after taken row = if is_after after row.1 then with_taken taken row else taken
 
--- those of these rows that come after the key, one after the other
+-- the page with the rows that come after the key, one after the other, while there is room
 abbrev pub taken_from : Option Key → SoFar → List (ℕ × Record) → SoFar
 taken_from after taken [] = taken
 taken_from after taken (row ∷ rows) = taken_from after (with_next after taken row) rows

@@ -1,5 +1,5 @@
 //! Lines are read.
-ghost use Rattle.std.specs.Prelude.{◌≡◌, Err, Some, None, IfOk, IfSome};
+ghost use Rattle.std.specs.Prelude.{◌≡◌, Err, Some, None, IfOk, IfSome, OnErr};
 ghost use Rattle.serde_json.specs.View.{view, members_view};
 ghost use Rattle.ipam_json.specs.Members.{only_if};
 ghost use Rattle.ipam_session.specs.Wishes.{says_time, request_wish, is_true, rows_wish, short_wish, named_wish, are_of_page, page_wish, are_of_call, call_wish, wish_of_members, wish_in, wish_of_line, IsSoundWish};
@@ -22,7 +22,39 @@ pub fn read_wish(alloc: Global, line: &[u8]) -> Result<Wish, AskFault>
     ensures unreadable { result ≡ Err AskFault.Unreadable → wish_of_line line.now ≡ None }
     ensures sound { IfOk result IsSoundWish }
 {
-    match wish_of_line(alloc, line) {
+    read_wish_by(alloc, line)
+}
+
+/// What takes the memory for reading a line. What is generic over it knows nothing of it, and so can't state by
+/// itself that it found none.
+trait ReadsLines {
+    /// It found no memory.
+    ghost wants: { Self → Type 0 };
+
+    /// What the line asks, or that it asks nothing.
+    fn wish_in_line(&self, line: &[u8]) -> Result<Option<Wish>, AllocError>
+        ensures read { IfOk result (λ found. found ≡ wish_of_line line.now) }
+        ensures sound { IfOk result (λ found. IfSome found IsSoundWish) }
+        ensures wants { OnErr result (wants self.now) };
+}
+
+impl ReadsLines for Global {
+    ghost wants = { λ _. Unit {0} };
+
+    fn wish_in_line(&self, line: &[u8]) -> Result<Option<Wish>, AllocError> {
+        wish_of_line(*self, line)
+    }
+}
+
+/// What the line asks. `Memory` is returned only where reading the line found none: a line that asks nothing is
+/// `Unreadable`.
+fn read_wish_by<T: ReadsLines + Drop>(alloc: T, line: &[u8]) -> Result<Wish, AskFault>
+    ensures read { IfOk result (λ wish. wish_of_line line.now ≡ Some wish) }
+    ensures unreadable { result ≡ Err AskFault.Unreadable → wish_of_line line.now ≡ None }
+    ensures sound { IfOk result IsSoundWish }
+    ensures want_of_memory_has_its_cause { result ≡ Err AskFault.Memory → T.wants alloc }
+{
+    match alloc.wish_in_line(line) {
         Ok(Some(wish)) => Ok(wish),
         Ok(None) => Err(AskFault::Unreadable),
         Err(_) => Err(AskFault::Memory),

@@ -66,12 +66,12 @@ module _ {D : Type 0} (slot : ℕ) (before : Kept D) where
     pub idle_after : slot_of_cluster after.cluster slot ≡ None
     pub keeper : LeavesKeeper before after
 
--- the routes were told, or were not
+-- the answer has the routes, or is a fault
 abbrev pub TellsRoutes : {D E : Type 0} → Tells D → (before : Kept D) → Result (ℕ × Vec Route) E → Type 0
 TellsRoutes tells before answer =
     IfOk answer (λ told. (base : Base) (history : List Entry) → FedFor tells before base history → AreRoutes base history told.0 told.1.items)
 
--- what became of the routes since a revision was told, or was not
+-- the answer has what became of the routes since a revision, or says why it can't
 pub record TellsChanges {D : Type 0} (tells : Tells D) (before : Kept D) (revision : ℕ) (answer : Result (ℕ × Vec Change) SinceFault) : Type 0 where
   pub changes : IfOk answer (λ told. (base : Base) (history : List Entry) → FedFor tells before base history → AreChanges base history revision told.0 told.1.items)
   pub compacted : (base : Base) (history : List Entry) (floor : ℕ) → FedFor tells before base history

@@ -1,4 +1,4 @@
--- What a fault in opening is told as.
+-- How a fault of loading or opening rows becomes one of a kept cluster.
 use Rattle.std.specs.Prelude.{◌≡◌, List, Result, Ok, Err}
 use Rattle.std.specs.Global.{Vec}
 use Rattle.ipam_records.specs.declared.call.Row.{Row as RowText}

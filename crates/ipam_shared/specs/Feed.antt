@@ -67,7 +67,7 @@ pub record AreChanges (base : Base) (history : List Entry) (revision counter : �
   pub exact : changes ≡ changes_since base.store (writes_in history) revision
   pub lead : Leads (routes_then base history revision) changes (routes_in (store_at base history))
 
--- the lowest revision since which the changes are told: that of the last change that is not kept any
+-- the lowest revision since which the changes are kept: that of the last change that is not kept any
 -- more, or the counter of the base
 abbrev pub floor_in : Base → List Entry → ℕ
 floor_in base history = floor_of base.store.counter (changes_of base.store (writes_in history))

@@ -9,7 +9,7 @@ use Rattle.ipam_keeper.specs.Keeping.{KeeperChange, SettlesOrNot}
 use Rattle.ipam_shared.specs.declared.write.RowWrite.{RowWrite}
 use Rattle.ipam_shared.specs.Rows.{AreToldKept, change_of, key_written, row_back, rows_after, texts_written}
 
--- the rows once the write is done, where they are told
+-- the rows once the write is done, where they are known
 abbrev pub known_after : RowWrite → Option (List RowText) → Option (List RowText)
 known_after write = option_map (rows_after write)
 

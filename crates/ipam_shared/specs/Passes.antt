@@ -40,7 +40,7 @@ pub record IsReachedIn (base : Base) (seen : List Entry) (slot moment : ℕ) : T
   pub others : NoneBy slot_of_entry slot later
   pub is_moment : moment ≡ moment_of base earlier
 
--- the pass was told of all that there was at its moment, and has seen entries of others alone since
+-- the pass has learned all that there was at its moment, and has seen entries of others alone since
 abbrev pub IsReached : PassValue → Type 0
 IsReached pass = IsReachedIn pass.base pass.seen pass.slot pass.moment
 
@@ -59,7 +59,7 @@ value_of turns moment sure = record {
   sure = sure;
 }
 
--- the pass knows whether something runs in its slot, and what it was told of
+-- the pass knows whether something runs in its slot, and what it has learned
 pub record IsPass (pass : PassValue) (running : Bool) : Type 0 where
   pub seen : IsLawfulPass pass
   pub reached : IsReached pass
@@ -71,7 +71,7 @@ pub record IsPass (pass : PassValue) (running : Bool) : Type 0 where
 abbrev pub IsSamePass : (old new : PassValue) → Type 0
 IsSamePass old new = new ≡ record old { left = new.left; seen = new.seen; moment = new.moment; sure = new.sure }
 
--- now the pass is told of all that it has seen, and what it knows to be sure stays
+-- now the pass has learned all that it has seen, and what it knows to be sure stays
 pub record IsTold (old new : PassValue) : Type 0 where
   pub moment : new.moment ≡ moment_of new.base new.seen
   pub sure : new.sure ≡ old.sure

@@ -29,7 +29,7 @@ pub record HadSettledIn {D : Type 0} (tells sure : Tells D) (base : Base) (seen 
 abbrev pub HadSettled : {D : Type 0} → (tells sure : Tells D) → PassValue → (count : ℕ) → Type 0
 HadSettled tells sure pass count = HadSettledIn tells sure pass.base pass.seen count
 
--- all that the pass was told of was sure at such a turn, and with it all that was done in its slot
+-- all that the pass has learned was sure at such a turn, and with it all that was done in its slot
 pub record WasSettled {D : Type 0} (tells sure : Tells D) (pass : PassValue) : Type 0 where
   pub had : HadSettled tells sure pass pass.moment
   pub reached : IsReached pass
@@ -43,7 +43,7 @@ abbrev pub IsWithin : (moment : ℕ) → Option ℕ → Type 0
 IsWithin moment None = ⊥
 IsWithin moment (Some count) = moment ≤ count
 
--- the pass knows all to be sure that it was told of
+-- the pass knows all that it has learned to be sure
 abbrev pub KnowsSure : PassValue → Type 0
 KnowsSure pass = IsWithin pass.moment pass.sure
 

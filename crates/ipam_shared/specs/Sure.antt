@@ -18,7 +18,7 @@ use Rattle.ipam_shared.specs.Rows.{AreToldKept, texts_loaded}
 
 -- ---- the rows of a moment
 
--- The rows, where they are told, are those that a keeper has at a moment of the history at which there
+-- The rows, where they are known, are those that a keeper has at a moment of the history at which there
 -- were at least so many entries: the datastore's then, but for the row that was in doubt then.
 pub record AreSince (count : ℕ) (told : Option (List RowText)) (base : Base) (history : List Entry) : Type 0 where
   pub later : List Entry

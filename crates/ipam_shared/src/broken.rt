@@ -1,4 +1,4 @@
-//! What is told of rows that break a rule.
+//! The line about rows that break a rule.
 ghost use Rattle.std.specs.Prelude.{◌≡◌, IfOk, string_bytes};
 ghost use Rattle.ipam_shared.specs.Broken.{broken_line};
 

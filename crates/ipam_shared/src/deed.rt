@@ -15,7 +15,7 @@ use ipam_keeper::Keeper;
 use ipam_model::SlotState;
 use turn_lock::Step;
 
-/// One thing that is done in a slot. It adds at most one entry, of the slot.
+/// A thing that is done in a slot. It adds at most one entry, of the slot.
 pub(crate) trait Deed<D: Keeper> {
     /// What it answers.
     type Answer;

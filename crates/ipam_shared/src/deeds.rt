@@ -122,7 +122,7 @@ impl<D: Keeper> Deed<D> for Settle {
     }
 }
 
-/// The routes are told.
+/// Reads the routes.
 #[derive(Drop)]
 pub(crate) struct Routes;
 
@@ -140,7 +140,7 @@ impl<D: Keeper> Deed<D> for Routes {
     }
 }
 
-/// What became of the routes after a revision is told.
+/// Reads what became of the routes after a revision.
 #[derive(Drop)]
 pub(crate) struct RoutesSince {
     pub(crate) revision: u64,

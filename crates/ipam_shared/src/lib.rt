@@ -1,5 +1,5 @@
-//! A cluster whose rows a keeper has: each write goes to the keeper before it is done. What that makes
-//! of the routes is told. And one request by itself, in a kept cluster in which nothing runs.
+//! A cluster whose rows a keeper has: each write goes to the keeper before it is done. It has the routes
+//! that follow from them. And one request by itself, in a kept cluster in which nothing runs.
 //!
 //! And a kept cluster under a lock. Whoever has a pass takes turns at it, in a slot of its own, and knows
 //! the history up to its last turn.
@@ -7,8 +7,8 @@
 //! Each call that is made for a request is one turn, so that others may come between two of them. The
 //! keeper is given a write in the turn that makes it, so rows are kept in the order of the history.
 //!
-//! A value may be handed to another thread where each of its parts may. That is shown here once, type
-//! by type from the rows up, for the crates that start threads over a cluster.
+//! A value may be handed to another thread where each of its parts may. That is shown here once, type by
+//! type from the rows up, for the crates that start threads over a cluster.
 #![tactic(auto)]
 
 mod broken;

@@ -14,7 +14,7 @@ use turn_lock::Turns;
 pub struct Pass {
     pub(crate) turns: Turns<Opened, Entry>,
     pub(crate) running: bool,
-    /// How many entries there were when it was told of all that there was.
+    /// How many entries there were when it last learned all that there was.
     pub(crate) moment: u64,
     /// So many entries it knows to be sure.
     pub(crate) sure: Option<u64>,
@@ -44,7 +44,7 @@ impl Pass {
     ghost use Rattle.ipam_shared.specs.Passes.{runs_in, IsReached};
     ghost use Rattle.ipam_shared.specs.Settling.{KnowsSure};
 
-    /// Its slot, from 0 to 63. No two passes of a lock have one slot.
+    /// The slot, from 0 to 63. No two passes of a lock have one slot.
     pub fn slot(&self) -> u8
         ensures is { result ≡ self.now.slot }
         ensures low { (result < self.now.made) × (self.now.made ≤ SLOTS) }
@@ -73,7 +73,7 @@ impl Pass {
         self.running
     }
 
-    /// Whether it knows all to be sure that it was told of. With that all is sure that was done in its slot.
+    /// Whether it knows all that it has learned to be sure. With that all is sure that was done in its slot.
     pub fn is_sure(&self) -> bool
         ensures sure { IsTrue result ↔ KnowsSure self.now }
         ensures reached { IsReached self.now }
@@ -84,7 +84,7 @@ impl Pass {
         }
     }
 
-    /// How many entries there were when it was told of all that there was.
+    /// How many entries there were when it last learned all that there was.
     pub(crate) fn moment(&self) -> u64
         ensures is { result ≡ self.now.moment }
         ensures reached { IsReached self.now }
@@ -92,7 +92,7 @@ impl Pass {
         self.moment
     }
 
-    /// Has it be told of what there was at this moment, and no more.
+    /// Sets what it has learned to what there was at this moment, and no more.
     pub(crate) fn tell(&mut self, moment: u64)
         requires { IsReached (record self.old { moment = moment }) }
         ensures { self.new ≡ record self.old { moment = moment } }

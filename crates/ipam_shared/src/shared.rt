@@ -285,8 +285,8 @@ impl<D: Keeper> Shared<D> {
         self.take_turn(rt, pass, Stop).ok_or(SpentPass)
     }
 
-    /// Has all be made sure that the pass was told of before, by one turn. Where the settling of another
-    /// pass made sure of it, nothing is asked of the keeper. On `Ok` the pass knows it.
+    /// Makes sure of all that the pass has learned, by one turn. Where the settling of another pass made
+    /// sure of it, nothing is asked of the keeper. On `Ok` the pass knows it.
     pub fn settle<R: Wait>(&self, rt: &R, pass: &mut Pass) -> Result<(), SharedFault<KeepFault>>
         requires lock { pass.old.lock ≡ self.now }
         ensures spent { (result ≡ Err SharedFault.SpentPass) ↔ (pass.old.left ≡ 0) }

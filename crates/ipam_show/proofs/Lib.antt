@@ -1,4 +1,5 @@
 -- Lemmas on what is shown.
+pub mod Chosen
 pub mod Counted
 pub mod Floats
 pub mod Found

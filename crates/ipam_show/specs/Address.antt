@@ -59,13 +59,13 @@ held_text b recorded = handle_text recorded ++ (compact_text (secondary_data rec
 abbrev pub has_pool : AddrValue → Datastore → Bool
 has_pool a store = list_any (λ pool. holds_address pool.cidr a) (pools_kept store)
 
--- what is said of an address that is not assigned
+-- the words for an address that is not assigned
 abbrev pub unheld_word : AddrValue → Datastore → List ℕ
 unheld_word a store =
     if not (has_pool a store) then codes " in no pool\n"
     else (if is_reserved_kept store a then codes " reserved\n" else codes " free\n")
 
--- what is said of an address
+-- the words for an address: who holds it, or that nobody does
 abbrev pub said_of : AddrValue → Datastore → Option Held → List ℕ
 said_of a store (Some (b, recorded)) = held_text b recorded
 said_of a store None = unheld_word a store

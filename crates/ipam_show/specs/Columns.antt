@@ -28,7 +28,7 @@ cell_room width text = replicate (width - length text) 32
 unfoldable pub first_placed : (width : ℕ) → List ℕ → List ℕ
 first_placed width text = text ++ cell_room width text
 
--- that of another column stands at its right end, after two spaces
+-- the text of another column stands at its right end, after two spaces
 unfoldable pub later_placed : (width : ℕ) → List ℕ → List ℕ
 later_placed width text = codes "  " ++ (cell_room width text ++ text)
 

@@ -9,6 +9,8 @@ pub mod Json
 pub mod Blocks
 pub mod Node
 pub mod Address
+pub mod InUse
+pub mod Addresses
 pub mod Usage
 pub mod Rows
 pub mod Shown

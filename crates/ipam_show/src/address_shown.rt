@@ -77,7 +77,7 @@ fn held_in_block(block: &Block, addr: Addr) -> Option<(&Block, &Attributes)>
     }
 }
 
-/// What is said of an address that is not assigned.
+/// The words for an address that is not assigned, with a line feed.
 fn unheld_word(alloc: Global, store: &Store, addr: Addr) -> Result<&'static str, AllocError>
     ensures { IfOk result (λ word. word.now ≡ unheld_word addr store.now.store) }
 {

@@ -1,5 +1,5 @@
 //! The addresses of each block, counted.
-ghost use Rattle.std.specs.Prelude.{◌≡◌, ◌<◌, ◌≤◌, ◌^◌, ◌++◌, length, IfOk, OnOk, codes};
+ghost use Rattle.std.specs.Prelude.{◌≡◌, ◌<◌, ◌≤◌, ◌^◌, ◌++◌, length, IfOk, OnOk};
 ghost use Rattle.std.specs.Option.{option_copied};
 ghost use Rattle.ipam_pool.specs.Spans.{is_reserved_by};
 ghost use Rattle.ipam_records.specs.Datastore.{most_blocks};
@@ -10,7 +10,7 @@ ghost use Rattle.ipam_show.specs.Kept.{blocks_kept};
 
 use crate::keeping::{block_pages, reservations_kept};
 use ipam_addr::{Cidr, Spared};
-use ipam_block::{Allocation, Block};
+use ipam_block::{Allocation, Attributes, Block};
 use ipam_pool::Reserved;
 use ipam_records::Record;
 use ipam_store::Store;
@@ -118,7 +118,7 @@ fn block_count(alloc: Global, reserved: &Reserved, block: &Block) -> Result<Bloc
 }
 
 /// The block's node as a text of its own.
-fn copied_node(alloc: Global, block: &Block) -> Result<Option<Text>, AllocError>
+pub(crate) fn copied_node(alloc: Global, block: &Block) -> Result<Option<Text>, AllocError>
     ensures { IfOk result (λ node. node ≡ block.now.node) }
 {
     match block.node() {
@@ -158,7 +158,7 @@ fn told_in(block: &Block) -> u16
     let _cidr = block.cidr();
     let mut count = 0u16;
     for allocation in block.allocations() {
-        if node_said(allocation).is_some() {
+        if recorded(allocation.attributes.get(), "node").is_some() {
             count += 1;
         }
     }
@@ -180,21 +180,21 @@ fn borrowed_in(block: &Block) -> u16
 }
 
 /// Whether the assignment is recorded with a node that is not the block's.
-fn borrows(block: &Block, allocation: &Allocation) -> bool
+pub(crate) fn borrows(block: &Block, allocation: &Allocation) -> bool
     ensures { result ≡ borrows block.now.node allocation.now }
 {
-    match node_said(allocation) {
+    match recorded(allocation.attributes.get(), "node") {
         Some(node) => block.node() != Some(node),
         None => false,
     }
 }
 
-/// The node that the assignment is recorded with, if any.
-fn node_said(allocation: &Allocation) -> Option<&str>
-    ensures { option_copied result ≡ value_of (codes "node") allocation.now.attributes.secondary }
+/// What an assignment is recorded with under the key, if anything.
+pub(crate) fn recorded<'a>(attributes: &'a Attributes, key: &str) -> Option<&'a str>
+    ensures { option_copied result ≡ value_of key.now attributes.now.secondary }
 {
-    for pair in allocation.attributes.get().secondary.as_slice() {
-        if pair.0.as_str() == "node" {
+    for pair in attributes.secondary.as_slice() {
+        if pair.0.as_str() == key {
             return Some(pair.1.as_str());
         }
     }

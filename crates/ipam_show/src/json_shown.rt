@@ -115,7 +115,7 @@ fn put_sums(
 }
 
 /// Puts a member whose value is a text.
-fn put_text(
+pub(crate) fn put_text(
     alloc: Global,
     members: &mut Map<String, Value>,
     name: &str,
@@ -129,7 +129,7 @@ fn put_text(
 }
 
 /// Puts a member whose value is the text of a cell.
-fn put_cell(
+pub(crate) fn put_cell(
     alloc: Global,
     members: &mut Map<String, Value>,
     name: &str,

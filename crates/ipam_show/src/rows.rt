@@ -6,7 +6,7 @@ use ipam_records::Row;
 use ipam_words::RowKind;
 use std::alloc::{AllocError, Global};
 
-/// A line for each of the rows that are told, in their order.
+/// A line for each of the rows, or of those of the kind, in their order.
 pub fn rows_text(alloc: Global, kind: Option<RowKind>, rows: &[Row]) -> Result<String, AllocError>
     ensures { IfOk result (λ text. string_bytes text ≡ rows_text kind rows.now) }
 {
@@ -19,7 +19,7 @@ pub fn rows_text(alloc: Global, kind: Option<RowKind>, rows: &[Row]) -> Result<S
     Ok(text)
 }
 
-/// Whether a row with this key is told.
+/// Whether a row with this key is shown.
 fn is_told(kind: Option<RowKind>, key: &str) -> bool
     ensures { result ≡ is_told kind key.now }
 {

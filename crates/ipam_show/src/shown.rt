@@ -6,6 +6,7 @@ ghost use Rattle.ipam_show.specs.Shown.{shown_text};
 ghost use Rattle.ipam_words.specs.Views.{seen_by};
 
 use crate::address_shown::show_address;
+use crate::addresses_shown::show_addresses;
 use crate::blocks_shown::show_blocks;
 use crate::json_shown::show_json;
 use crate::node_shown::show_node;
@@ -25,5 +26,6 @@ pub fn shown_text(alloc: Global, view: &View<'_>, store: &Store) -> Result<Strin
         View::Blocks => show_blocks(alloc, store),
         View::Address(address) => show_address(alloc, store, *address),
         View::Node(node) => show_node(alloc, store, node),
+        View::Addresses(chosen, form) => show_addresses(alloc, store, chosen, *form),
     }
 }

@@ -10,9 +10,9 @@ use ipam_addr::Cidr;
 pub(crate) enum Scope<'a> {
     /// All of them.
     All,
-    /// Those of the pool of this CIDR.
+    /// The blocks of the pool of this CIDR.
     Pool(Cidr),
-    /// Those of this node.
+    /// The blocks of this node.
     Node(&'a str),
 }
 

@@ -3,6 +3,7 @@ use Rattle.std.specs.Prelude.{ℕ, Bool, true, false, ◌==◌, ◌||◌}
 use Rattle.ipam_socket.specs.declared.link.SocketLink.{SocketLink}
 use Rattle.ipam_socket.specs.declared.gate.PeerGate.{PeerGate}
 use Rattle.ipam_socket.specs.declared.gate.StreamPeer.{StreamPeer}
+use Rattle.ipam_socket.specs.declared.connection.Connection.{Connection}
 use Rattle.ipam_socket.specs.declared.stream.Stream.{Stream}
 use Rattle.ipam_socket.specs.declared.stream.Stream.TheVariants.{File, Host}
 
@@ -19,8 +20,8 @@ abbrev pub link_write_faults : {C S : Type 0} → SocketLink C S → ℕ
 link_write_faults link = link.write_faults
 
 -- the connection whose peer it is
-abbrev pub whose : StreamPeer → Stream
-whose peer = peer.stream.now
+abbrev pub whose : StreamPeer → Connection
+whose peer = peer.connection.now
 
 -- whom the gate looks at
 abbrev pub peer_of : {P : Type 0} → PeerGate P → P

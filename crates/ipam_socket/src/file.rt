@@ -1,16 +1,17 @@
 //! A socket file.
+use crate::dialing::connect_file;
 use std::alloc::{Allocator, Global};
 use std::fs::{DirBuilder, Files, Metadata, Permissions};
 use std::io::ErrorKind;
 use std::net::Net;
 use std::os::unix::fs::{DirBuilderExt, FileTypeExt, MetadataExt, PermissionsExt};
-use std::os::unix::net::{UnixListener, UnixStream};
+use std::os::unix::net::UnixListener;
 use std::{fs, io};
 
-/// Its owner and its group may connect to a socket file.
+/// The mode of a socket file: its owner and its group may connect to it.
 const FILE_MODE: u32 = 0o660;
 
-/// Its owner alone may enter the directory in which a socket file is made.
+/// The mode of the directory in which a socket file is made: its owner alone may enter it.
 const MAKING_MODE: u32 = 0o700;
 
 /// Which file it is, whatever its name: its device, and its number there.
@@ -52,7 +53,7 @@ pub(crate) fn bind<R: Files + Net>(
     make(rt, alloc, path)
 }
 
-/// The same, whatever has the path.
+/// Listens at a socket file of this path, in place of whatever file has the path.
 pub(crate) fn make<R: Files + Net>(
     rt: &R,
     alloc: Global,
@@ -112,14 +113,16 @@ fn make_way<R: Files + Net>(rt: &R, path: &str) -> io::Result<()> {
 
 /// Fails unless a connection to the socket file is refused, since nobody listens.
 fn refused<R: Net>(rt: &R, path: &str) -> io::Result<()> {
-    match UnixStream::connect(rt, path) {
+    match connect_file(rt, path) {
         Ok(_) => Err(io::Error::new(ErrorKind::AddrInUse, "another daemon answers there")),
-        Err(error) => {
-            if error.kind() == ErrorKind::ConnectionRefused {
-                return Ok(());
+        Err(error) => match error.kind() {
+            ErrorKind::ConnectionRefused => Ok(()),
+            ErrorKind::WouldBlock => {
+                let words = "another daemon has this path, and its queue is full";
+                Err(io::Error::new(ErrorKind::AddrInUse, words))
             }
-            Err(error)
-        }
+            _ => Err(error),
+        },
     }
 }
 

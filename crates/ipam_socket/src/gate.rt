@@ -5,7 +5,8 @@ ghost use Rattle.ipam_io.specs.Counts.{Rose, next_count};
 ghost use Rattle.ipam_io.specs.Passing.{OnStop, OnGo};
 ghost use Rattle.ipam_socket.specs.Links.{peer_of, looks_of, gone_of, whose};
 
-use crate::stream::Stream;
+use crate::connection::Connection;
+use crate::stream::Connected;
 use ipam_io::{Gate, Passed, Point};
 
 /// What is looked at to see whether somebody still waits for the reply.
@@ -22,25 +23,28 @@ pub trait Peer {
         ensures there { OnTrue result (gone self.new ≡ gone self.old) }
         ensures nobody { OnFalse result (Rose (gone self.old) (gone self.new)) }
         ensures never_falls { gone self.old ≤ gone self.new };
+
+    /// From now on its session may be left between two lines, or may not.
+    fn set_idle(&self, is_idle: bool);
 }
 
 /// The peer of a connection.
 #[derive(Drop)]
 pub struct StreamPeer<'a> {
-    stream: &'a Stream,
+    connection: &'a Connection,
     looks: u64,
     gone: u64,
 }
 
 impl StreamPeer<'_> {
     /// The peer of this connection, at which nobody has looked.
-    pub fn new(stream: &Stream) -> StreamPeer<'_>
-        ensures connection { whose result ≡ stream.now }
+    pub fn new(connection: &Connection) -> StreamPeer<'_>
+        ensures connection { whose result ≡ connection.now }
         ensures looks { looks_of result ≡ 0 }
         ensures gone { gone_of result ≡ 0 }
     {
         StreamPeer {
-            stream,
+            connection,
             looks: 0,
             gone: 0,
         }
@@ -54,11 +58,15 @@ impl Peer for StreamPeer<'_> {
 
     fn is_there(&mut self) -> bool {
         self.looks = self.looks.saturating_add(1);
-        let is_there = self.stream.has_peer();
+        let is_there = self.connection.stream().has_peer();
         if !is_there {
             self.gone = self.gone.saturating_add(1);
         }
         is_there
+    }
+
+    fn set_idle(&self, is_idle: bool) {
+        self.connection.set_idle(is_idle);
     }
 }
 
@@ -75,6 +83,11 @@ impl<P: Peer> PeerGate<P> {
         ensures { peer_of result ≡ peer }
     {
         PeerGate { peer }
+    }
+
+    /// From now on the session may be left between two lines, or may not.
+    pub fn set_idle(&self, is_idle: bool) {
+        self.peer.set_idle(is_idle);
     }
 }
 

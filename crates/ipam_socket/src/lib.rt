@@ -3,18 +3,26 @@
 #![tactic(auto)]
 
 mod address;
+mod bell;
+mod bound;
+mod connection;
 mod dialing;
+mod entrance;
 mod file;
 mod gate;
+mod idle;
 mod limits;
 mod link;
 mod listener;
 mod listening;
 mod passing;
+mod ready;
 mod stream;
 mod waits;
 
 pub use address::Address;
+pub use bell::Bell;
+pub use connection::Connection;
 pub use dialing::{DialError, dial};
 pub use gate::{Peer, PeerGate, StreamPeer};
 pub use ipam_io::Failed;

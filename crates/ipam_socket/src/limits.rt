@@ -4,7 +4,7 @@ use std::time::Duration;
 /// How long a link waits before it fails.
 #[derive(Clone, Copy)]
 pub struct Limits {
-    /// For the whole first line.
+    /// For the whole first line. The daemon waits for so long for it to begin, and then for the whole of it.
     pub first: Duration,
     /// For the rest of a line that has begun.
     pub line: Duration,
@@ -14,7 +14,7 @@ pub struct Limits {
     pub write: Duration,
 }
 
-/// How many seconds the daemon waits for the whole first line of a session.
+/// How many seconds the daemon waits for the first line of a session to begin, and then for the whole of it.
 const FIRST_LINE_SECONDS: u64 = 10;
 
 /// How many seconds either side waits for the rest of a line that has begun.

@@ -10,16 +10,33 @@ use std::io;
 use std::io::ErrorKind;
 use std::time::{Clock, Duration, Instant};
 
+/// How many milliseconds a session stays with its worker for the next line to begin, before it is left.
+const STAY_MILLIS: u64 = 50;
+
+/// How many milliseconds it stays where others wait for a worker.
+const SHORT_STAY_MILLIS: u64 = 2;
+
+/// For how many milliseconds a session is served in one go, and for how many where others wait for a worker. After that
+/// it is left at once. Who accepts connections may serve it, and then doesn't see whether others wait.
+const TURN_MILLIS: u64 = 1_000;
+
+const SHORT_TURN_MILLIS: u64 = 50;
+
 /// A connection as a link. It tells neither the bytes that come nor those that went. A read or a
 /// write that takes longer than its limit is a fault, and so is a first byte over TCP with which no
 /// session begins: a web page can have a browser send lines of a session, but only after a first
 /// line of its own. The daemon's end takes no bytes of a peer that is gone, which is a fault too.
+///
+/// Where somebody keeps the connection, a session is left between two lines once it has stayed long enough: it reads
+/// its end, nothing is taken from the connection, and a new session goes on with the next line.
 #[derive(Drop)]
 pub struct SocketLink<C, S> {
     clock: C,
     stream: S,
-    limits: Limits,
+    write_limit: Duration,
     waits: Waits,
+    // when it was made
+    began: Option<Instant>,
     // whether bytes are taken only while the peer is there
     is_session: bool,
     is_checked: bool,
@@ -35,8 +52,17 @@ impl<C: Clock, S: Connected> SocketLink<C, S> {
         ensures read_faults { link_read_faults result ≡ 0 }
         ensures write_faults { link_write_faults result ≡ 0 }
     {
-        let is_checked = !stream.stream().is_open_to_hosts();
-        SocketLink::new(clock, stream, limits, true, is_checked)
+        let goes_on = match stream.kept() {
+            Some(kept) => kept.begin(),
+            None => false,
+        };
+        let is_checked = goes_on || !stream.stream().is_open_to_hosts();
+        let waits = if goes_on {
+            Waits::between(limits)
+        } else {
+            Waits::new(limits)
+        };
+        SocketLink::new(clock, stream, waits, limits.write, true, is_checked)
     }
 
     /// The client's end of this connection, where each first byte is taken.
@@ -45,13 +71,14 @@ impl<C: Clock, S: Connected> SocketLink<C, S> {
         ensures read_faults { link_read_faults result ≡ 0 }
         ensures write_faults { link_write_faults result ≡ 0 }
     {
-        SocketLink::new(clock, stream, limits, false, true)
+        SocketLink::new(clock, stream, Waits::new(limits), limits.write, false, true)
     }
 
     fn new(
         clock: C,
         stream: S,
-        limits: Limits,
+        waits: Waits,
+        write_limit: Duration,
         is_session: bool,
         is_checked: bool,
     ) -> SocketLink<C, S>
@@ -59,11 +86,13 @@ impl<C: Clock, S: Connected> SocketLink<C, S> {
         ensures read_faults { link_read_faults result ≡ 0 }
         ensures write_faults { link_write_faults result ≡ 0 }
     {
+        let began = Instant::now(&clock).ok();
         SocketLink {
             clock,
             stream,
-            limits,
-            waits: Waits::new(limits),
+            write_limit,
+            waits,
+            began,
             is_session,
             is_checked,
             is_refused: false,
@@ -75,6 +104,71 @@ impl<C: Clock, S: Connected> SocketLink<C, S> {
     /// Whether the first byte was none with which a session begins.
     pub fn is_refused(&self) -> bool {
         self.is_refused
+    }
+
+    /// Makes one read, or none where the session is left.
+    fn read_next(&mut self, into: &mut [u8]) -> io::Result<usize>
+        requires { 0 < length into.old }
+        ensures bound { IfOk result (λ n. n ≤ length into.new) }
+        ensures read_faults { link_read_faults self.new ≡ link_read_faults self.old }
+        ensures write_faults { link_write_faults self.new ≡ link_write_faults self.old }
+    {
+        match self.stay() {
+            Some(stay) => self.read_or_leave(stay, into),
+            None => self.read_in_time(into),
+        }
+    }
+
+    /// How long the session stays for the next line before it is left. None where it is not.
+    fn stay(&self) -> Option<Duration> {
+        let kept = self.stream.kept()?;
+        if self.waits.has_begun() || !kept.is_idle() {
+            return None;
+        }
+        let (stay, turn) = if kept.others_wait() {
+            (SHORT_STAY_MILLIS, SHORT_TURN_MILLIS)
+        } else {
+            (STAY_MILLIS, TURN_MILLIS)
+        };
+        if self.was_served_for(Duration::from_millis(turn)) {
+            return Some(Duration::ZERO);
+        }
+        Some(Duration::from_millis(stay))
+    }
+
+    /// Whether it was served for so long. So it is where the clock fails.
+    fn was_served_for(&self, turn: Duration) -> bool {
+        let Some(began) = &self.began else {
+            return true;
+        };
+        match began.elapsed(&self.clock) {
+            Ok(served) => served >= turn,
+            Err(_) => true,
+        }
+    }
+
+    /// Makes one read, for no longer than the session stays. Where nothing comes, it is left, and has its end.
+    fn read_or_leave(&mut self, stay: Duration, into: &mut [u8]) -> io::Result<usize>
+        ensures bound { IfOk result (λ n. n ≤ length into.new) }
+        ensures read_faults { link_read_faults self.new ≡ link_read_faults self.old }
+        ensures write_faults { link_write_faults self.new ≡ link_write_faults self.old }
+    {
+        if !stay.is_zero() {
+            match self.stream.stream().read_within(stay, into) {
+                Ok(count) => {
+                    self.waits.took(&into[..count]);
+                    return Ok(count);
+                }
+                Err(error) => match error.kind() {
+                    ErrorKind::WouldBlock | ErrorKind::Interrupted => {}
+                    _ => return Err(error),
+                },
+            }
+        }
+        if let Some(kept) = self.stream.kept() {
+            kept.leave();
+        }
+        Ok(0)
     }
 
     /// Makes one read, again where a signal interrupts it.
@@ -136,7 +230,7 @@ impl<C: Clock, S: Connected> SocketLink<C, S> {
     /// Writes the whole piece part by part, for no longer than the limit in all.
     fn write_in_time(&self, piece: &[u8]) -> io::Result<()> {
         let mut rest = piece;
-        let mut left = self.limits.write;
+        let mut left = self.write_limit;
         for _ in 0..u64::MAX {
             if rest.is_empty() {
                 return Ok(());
@@ -181,7 +275,7 @@ impl<C: Clock, S: Connected> Source for SocketLink<C, S> {
     /// Makes one read of the connection, which waits for no longer than is left for the line. An
     /// error of it is a fault.
     fn read(&mut self, into: &mut [u8]) -> Result<usize, Failed> {
-        if let Ok(count) = self.read_in_time(into) {
+        if let Ok(count) = self.read_next(into) {
             if self.admits(&into[..count]) {
                 return Ok(count);
             }

@@ -3,9 +3,11 @@ ghost use Rattle.std.specs.Prelude.{◌≡◌};
 ghost use Rattle.std.specs.Io.{ReadsAtMost, WritesAtMost};
 ghost use Rattle.ipam_socket.specs.Links.{may_begin, is_open_to_hosts};
 
+use crate::connection::Connection;
 use std::io;
 use std::io::{Read, Write};
 use std::net::TcpStream;
+use std::os::fd::{AsRawFd, RawFd};
 use std::os::unix::net::UnixStream;
 use std::time::Duration;
 
@@ -22,17 +24,18 @@ pub enum Stream {
 pub trait Connected {
     /// The connection.
     fn stream(&self) -> &Stream;
+
+    /// The connection, where somebody keeps it once its session is left. None where a session lasts as long as it.
+    fn kept(&self) -> Option<&Connection>;
 }
 
 impl Connected for Stream {
     fn stream(&self) -> &Stream {
         self
     }
-}
 
-impl Connected for &Stream {
-    fn stream(&self) -> &Stream {
-        self
+    fn kept(&self) -> Option<&Connection> {
+        None
     }
 }
 
@@ -60,6 +63,14 @@ impl Stream {
         match self {
             Stream::File(_) => false,
             Stream::Host(_) => true,
+        }
+    }
+
+    /// What the system knows it by.
+    pub(crate) fn raw_fd(&self) -> RawFd {
+        match self {
+            Stream::File(stream) => stream.as_raw_fd(),
+            Stream::Host(stream) => stream.as_raw_fd(),
         }
     }
 

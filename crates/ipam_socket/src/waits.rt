@@ -32,6 +32,26 @@ impl Waits {
         }
     }
 
+    /// What is waited for the next line, where a session before had some.
+    pub fn between(limits: Limits) -> Waits
+        ensures left { nanos_left result ≡ as_nanos limits.between }
+        ensures begun { is_begun result ≡ false }
+        ensures limits { limits_of result ≡ limits }
+    {
+        Waits {
+            limits,
+            is_begun: false,
+            left: limits.between,
+        }
+    }
+
+    /// Whether a line has begun, or the first is waited for.
+    pub fn has_begun(&self) -> bool
+        ensures { result ≡ is_begun self.now }
+    {
+        self.is_begun
+    }
+
     /// How much longer is waited. None where no time is left.
     pub fn left(&self) -> Option<Duration>
         ensures none { IsNone result ↔ (nanos_left self.now ≡ 0) }
@@ -44,7 +64,7 @@ impl Waits {
         }
     }
 
-    /// So long was waited.
+    /// Takes the time that was waited from the time that is left.
     pub fn spend(&mut self, waited: Duration)
         ensures left { nanos_left self.new ≡ nanos_left self.old - as_nanos waited }
         ensures begun { is_begun self.new ≡ is_begun self.old }
@@ -53,8 +73,9 @@ impl Waits {
         self.left = self.left.saturating_sub(waited);
     }
 
-    /// These bytes came. Where they end a line, the next one may take its time to begin; where they
-    /// begin a line, the rest of it has a limit of its own, which further bytes of it leave alone.
+    /// Notes that these bytes came. Where they end a line, the next one may take its time to begin;
+    /// where they begin a line, the rest of it has a limit of its own, which further bytes of it
+    /// leave alone.
     pub fn took(&mut self, bytes: &[u8])
         ensures ended { slice_get bytes.now (length bytes.now - 1) ≡ Some 10
             → (is_begun self.new ≡ false) × (nanos_left self.new ≡ as_nanos (limits_of self.old).between) }

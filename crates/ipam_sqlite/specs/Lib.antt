@@ -1,5 +1,4 @@
 -- What is known of a keeper over a file.
 pub mod Answers
-pub mod Known
 pub mod Order
 pub mod Refused

@@ -26,8 +26,8 @@ const LOCKS_LENGTH: u64 = 512;
 /// How many bytes are read at once.
 const PIECE: usize = 65536;
 
-/// All rows. Nothing is written: the log is taken in a copy of both files in memory. Nobody writes them while they
-/// are copied.
+/// Reads all rows. Nothing is written: the log is taken in a copy of both files in memory. Nobody writes them
+/// while they are copied.
 pub(crate) fn load_copy(rt: &HostRuntime, path: &str) -> Result<Vec<Row>, Trouble>
     ensures { IfOk result (λ loaded. Ascend loaded.items) }
 {
@@ -101,7 +101,7 @@ fn copy_into<D: Disk>(alloc: Global, file: &File, copy: &mut D) -> Result<(), Tr
     Ok(())
 }
 
-/// It has no contract, so that no proof counts its bytes.
+/// Room for the bytes of one read. It has no contract, so that no proof counts its bytes.
 pub(crate) fn room(alloc: Global) -> Result<Vec<u8>, AllocError> {
     vec![in alloc; 0; PIECE]
 }

@@ -1,4 +1,7 @@
 //! Why a database file could not be used.
+ghost use Rattle.std.specs.Prelude.{◌≡◌};
+
+use ipam_table::TableFault;
 use sqlite::{Error, ErrorCode};
 use std::alloc::AllocError;
 use std::{fmt, io};
@@ -97,6 +100,28 @@ impl fmt::Display for StorageFault {
 pub(crate) enum Trouble {
     Memory,
     Fault(StorageFault),
+}
+
+impl From<Trouble> for TableFault<StorageFault> {
+    ghost use Rattle.ipam_sqlite.specs.Answers.{fault_of};
+
+    ghost from_gives = { λ trouble fault. fault ≡ fault_of trouble };
+
+    fn from(trouble: Trouble) -> TableFault<StorageFault> {
+        match trouble {
+            Trouble::Memory => TableFault::Memory,
+            Trouble::Fault(fault) => TableFault::Failed(fault),
+        }
+    }
+}
+
+impl From<TableFault<StorageFault>> for Trouble {
+    fn from(fault: TableFault<StorageFault>) -> Trouble {
+        match fault {
+            TableFault::Memory => Trouble::Memory,
+            TableFault::Failed(fault) => Trouble::Fault(fault),
+        }
+    }
 }
 
 impl From<AllocError> for Trouble {

@@ -7,23 +7,22 @@ ghost use Rattle.ipam_sqlite.specs.Refused.{IsRefused, AnswersRefused};
 
 use crate::copied::load_copy;
 use crate::fault::{StorageFault, Trouble};
-use crate::opened::{Ask, Ending, Opened};
 use crate::opening::Aim;
 use crate::place::{Place, Waiting, open_in_turn};
+use crate::table::{Ask, Ending, SqliteTable};
 use crate::tally::Tally;
 use ipam_keeper::{KeepFault, Keeper, Row};
 use ipam_text::Text;
 use sqlite::{File, FileStore};
-use std::alloc::Global;
 use std::mem;
 
 /// Whether a file is open. It is let go by `end` alone.
 ///
 /// The proof of a function that calls one written for any store goes through the whole store of files, and takes
-/// half a minute. Only `FileKeeper::answer`, `Opened::end`, `connect` and `load_copy` do.
+/// half a minute. Only `FileKeeper::answer`, `SqliteTable::end`, `connect` and `load_copy` do.
 enum State {
     Closed,
-    Open(Opened<FileStore<File>>),
+    Open(SqliteTable<FileStore<File>>),
     /// The files may only be read, so each load reads a copy of them in memory.
     Copied,
     /// Each call fails.
@@ -105,7 +104,7 @@ impl FileKeeper {
         keeper
     }
 
-    /// The same keeper, which waits for its file so.
+    /// Sets how the keeper waits for its file.
     pub fn waiting(self, waiting: Waiting) -> FileKeeper
         ensures { result.tally ≡ self.tally }
     {
@@ -182,7 +181,7 @@ impl FileKeeper {
     {
         self.ready()?;
         match (&mut self.state, ask) {
-            (State::Open(opened), _) => opened.answer(self.rt.alloc(), ask),
+            (State::Open(opened), _) => opened.answer(ask),
             (State::Copied, Ask::Load) => self.copied(),
             (State::Copied, Ask::Put(..) | Ask::Remove(_)) => Err(Trouble::Fault(
                 StorageFault::NoPermission,

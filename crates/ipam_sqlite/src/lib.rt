@@ -9,14 +9,15 @@ mod lazy;
 mod loading;
 mod log_frames;
 mod names;
-mod opened;
 mod opening;
 mod place;
+mod table;
 mod tally;
 mod turn;
 
 pub use fault::StorageFault;
-pub use keeper::SqliteKeeper;
+pub use keeper::{SqliteKeeper, open_keeper, open_served};
 pub use lazy::{FileKeeper, fold_log};
 pub use place::{Place, Waiting, daemon_at};
+pub use table::SqliteTable;
 pub use turn::{Pauses, Tries, wait_for};

@@ -11,8 +11,8 @@ use std::alloc::Global;
 
 const LOAD: &str = "SELECT key, revision, body FROM rows ORDER BY key";
 
-/// All rows. It is a fault that a row is no text, whole number and text, that its revision is
-/// negative, or that its key is not above the one before it.
+/// Reads all rows. It is a fault that a row is no text, whole number and text, that its
+/// revision is negative, or that its key is not above the one before it.
 pub(crate) fn load_rows<S: Alter>(
     conn: &mut Connection<S>,
     alloc: Global,

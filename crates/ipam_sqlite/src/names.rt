@@ -63,7 +63,7 @@ fn file_of(looked: io::Result<Metadata>) -> Result<Option<(FileId, u64)>, Troubl
     }
 }
 
-/// It has no contract, so that no proof computes with the number of a kind of file.
+/// Whether it is a regular file. It has no contract, so that no proof computes with the number of a kind of file.
 fn is_regular(found: &Metadata) -> bool {
     found.is_file()
 }
@@ -168,18 +168,18 @@ impl Watch {
         }
     }
 
-    /// It is a fault that one of the names does not lead to the file that was opened, and that the log is shorter
-    /// than at the last look.
-    pub(crate) fn check(&mut self) -> Result<(), Trouble> {
+    /// Looks at both names. It is a fault that one of them does not lead to the file that was opened, and that
+    /// the log is shorter than at the last look.
+    pub(crate) fn check(&mut self) -> Result<(), StorageFault> {
         match found_at(&self.rt, self.log_path.as_str()) {
             Some((log, length)) if log == self.log && self.has_file() => {
                 if length < self.log_length {
-                    return Err(Trouble::Fault(StorageFault::LogCut));
+                    return Err(StorageFault::LogCut);
                 }
                 self.log_length = length;
                 Ok(())
             }
-            _ => Err(Trouble::Fault(StorageFault::FileGone)),
+            _ => Err(StorageFault::FileGone),
         }
     }
 }

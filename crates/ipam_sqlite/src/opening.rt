@@ -5,7 +5,7 @@ use crate::fault::{StorageFault, Trouble};
 use crate::header::is_as_made;
 use crate::log_frames::{check_log, write_again};
 use crate::names::{FileId, Found, Watch, look, make, why_closed};
-use crate::opened::Opened;
+use crate::table::SqliteTable;
 use sqlite::{Alter, Connection, Error, File, FileStore, Files, Options, Row, Unknown};
 use sqlite_disk::Disk;
 use sqlite_std_file::OpenError;
@@ -39,8 +39,8 @@ pub(crate) enum Aim {
     Look,
     /// Read and write it, and make it where it is not there. Each change is on the disk before its call answers.
     KeepAtOnce,
-    /// The same, but a settling puts all changes since the last one on the disk, at once and whole. Before it a
-    /// crash, a kill or a drop takes back all of them.
+    /// Read and write it, and make it where it is not there. A settling puts all changes since the last one on the
+    /// disk, at once and whole. Before it a crash, a kill or a drop takes back all of them.
     KeepAtSettle,
 }
 
@@ -49,7 +49,7 @@ pub(crate) fn open_database(
     rt: &HostRuntime,
     path: &str,
     aim: Aim,
-) -> Result<Option<Opened<FileStore<File>>>, Trouble> {
+) -> Result<Option<SqliteTable<FileStore<File>>>, Trouble> {
     let Found { file, is_nothing } = look(rt, path)?;
     if is_nothing && matches!(aim, Aim::Look) {
         return Ok(None);
@@ -147,7 +147,7 @@ enum Begun<S: Alter> {
     Empty,
     /// The table is in the log alone.
     InLog(Connection<S>),
-    Made(Opened<S>),
+    Made(SqliteTable<S>),
 }
 
 /// Makes the table where the aim is to keep rows and there is none.
@@ -169,13 +169,7 @@ fn begin<S: Alter + Drop>(
         Stage::InLog => Ok(Begun::InLog(conn)),
         Stage::Made => {
             let watch = Watch::over(rt, path, file)?;
-            Ok(Begun::Made(Opened {
-                conn,
-                watch,
-                aim,
-                has_unsettled: false,
-                failed: None,
-            }))
+            Ok(Begun::Made(SqliteTable::new(conn, watch, rt.alloc())))
         }
     }
 }
@@ -242,7 +236,7 @@ fn is_spelled(statement: &str, spelling: &str) -> bool {
     letters.next().is_none()
 }
 
-/// It has no contract, so that no proof goes through the ranges of blanks.
+/// Whether the byte is a blank. It has no contract, so that no proof goes through the ranges of blanks.
 fn is_blank(byte: u8) -> bool {
     byte.is_ascii_whitespace()
 }

@@ -3,8 +3,8 @@ ghost use Rattle.std.specs.Prelude.{◌≡◌, is_some};
 
 use crate::fault::{StorageFault, Trouble};
 use crate::names::beside;
-use crate::opened::Opened;
 use crate::opening::{Aim, open_database};
+use crate::table::SqliteTable;
 use crate::turn::{Pauses, Tries, wait_for};
 use ipam_text::Text;
 use sqlite::FileStore;
@@ -194,7 +194,7 @@ impl Pauses for SystemPauses<'_> {
 }
 
 /// What an opening comes to.
-type Outcome = Result<Option<Opened<FileStore<sqlite::File>>>, Trouble>;
+pub(crate) type Outcome = Result<Option<SqliteTable<FileStore<sqlite::File>>>, Trouble>;
 
 /// A database that is opened once it is this process's turn.
 #[derive(Drop)]

@@ -7,7 +7,7 @@ use ipam_block::State;
 use ipam_records::{Key, Record, Write};
 use std::alloc::AllocError;
 
-/// That a write of this revision gave a route or took it.
+/// A route that a write of this revision gave or took.
 pub struct Change {
     pub revision: u64,
     pub route: Route,

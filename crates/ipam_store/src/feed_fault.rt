@@ -1,4 +1,4 @@
-/// Why the changes since a revision are not told.
+/// Why the changes since a revision can't be given.
 #[derive(Clone, Copy, Debug, PartialEq, Eq)]
 pub enum SinceFault {
     /// Not all of them are kept: they are from this revision on.

@@ -12,7 +12,7 @@ use ipam_text::Text;
 use std::alloc::AllocError;
 use std::cmp::Ordering;
 
-/// That a node's addresses lie in the block of this CIDR.
+/// A node, and the CIDR of a block in which its addresses lie.
 pub struct Route {
     pub node: Text,
     pub cidr: Cidr,

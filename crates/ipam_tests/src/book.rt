@@ -50,7 +50,7 @@ impl Booked for Book {
     }
 }
 
-/// One more note. It answers whether there was memory for it.
+/// Adds a note. Answers whether there was memory for it.
 #[derive(Drop)]
 pub struct Write {
     pub note: Note,

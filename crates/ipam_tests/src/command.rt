@@ -1,4 +1,4 @@
-//! A command is run, and what comes of it is told.
+//! Runs a command, and writes down what comes of it.
 use crate::command_texts::words_of;
 use ipam_command::run_command;
 use ipam_io::{MemorySink, MemorySource};

@@ -92,7 +92,7 @@ fn passes_answer(alloc: Global, line: &str) -> Result<String, AllocError> {
     passes_text(alloc, line, before, count, said(&first))
 }
 
-/// One by one, passes are split off and joined again. How many there were.
+/// Splits passes off, and joins each again, one by one. Answers how many there were.
 fn split_all(lock: &TurnLock<Book>, first: &mut Pass) -> u32
     requires { first.old.lock ≡ lock.now }
 {

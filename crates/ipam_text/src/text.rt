@@ -60,14 +60,6 @@ impl Text {
     {
         self.string.as_bytes()
     }
-
-    /// The text as a `String`, with nothing copied.
-    pub fn into_string(self) -> String
-        ensures { string_bytes result ≡ self }
-    {
-        let Text { string } = self;
-        string
-    }
 }
 
 impl Clone for Text {

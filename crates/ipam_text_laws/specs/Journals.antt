@@ -22,7 +22,7 @@ kind_word (entry.Fed slot at live) = codes "fed"
 kind_word (entry.Called called) = codes "called"
 kind_word (entry.Stopped slot) = codes "stopped"
 
--- calls that are told alike: the same name, reply, record and answer in their texts, the same fate, and
+-- calls with one text: the same name, reply, record and answer in their texts, the same fate, and
 -- whether a record was written and an answer given
 pub record CallsAgree (c d : Called) : Type 0 where
   pub call : call_text c.call ≡ call_text d.call
@@ -33,18 +33,18 @@ pub record CallsAgree (c d : Called) : Type 0 where
   pub wrote : is_some c.written ≡ is_some d.written
   pub ended : is_some c.answer ≡ is_some d.answer
 
--- where both are calls, they are told alike
+-- where both are calls, they have one text
 abbrev pub CallsAlike : Entry → Entry → Type 0
 CallsAlike (entry.Called c) (entry.Called d) = CallsAgree c d
 CallsAlike one other = ⊤
 
--- the entries are told alike: they are of one slot and of one kind
+-- the entries have one line: they are of one slot and of one kind
 pub record IsToldAlike (one other : Entry) : Type 0 where
   pub slot : slot_of_entry one ≡ slot_of_entry other
   pub kind : kind_word one ≡ kind_word other
   pub calls : CallsAlike one other
 
--- there are as many entries in both histories, and each is told as that of its place
+-- there are as many entries in both histories, and each has the line of that at its place
 abbrev pub AreToldAlike : List Entry → List Entry → Type 0
 AreToldAlike [] [] = ⊤
 AreToldAlike [] (new ∷ further) = ⊥

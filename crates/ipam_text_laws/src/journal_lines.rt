@@ -68,8 +68,8 @@ pub fn each_entry_of_a_lawful_history_has_names()
         → AllByRecursion HasNames history }
 {}
 
-/// So each entry of a lawful history is a whole line, and two lawful histories whose journals are one
-/// text have the same lines.
+/// Each entry of a lawful history is a whole line, and two lawful histories whose journals are one text
+/// have the same lines.
 #[tactic(auto, using(crate::proofs::Journals::history_whole, crate::proofs::Journals::same_histories))]
 pub fn the_journal_of_a_lawful_history_is_read_in_one_way()
     ensures lines { (base : Base) (history : List Entry) → IsDatastore base.store

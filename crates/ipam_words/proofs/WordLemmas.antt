@@ -1,6 +1,7 @@
 -- What words ask is sound.
-use Rattle.std.proofs.Common.{◌≡◌, ℕ, ◌&&◌, Bool, true, false, List, Option, Some, None, refl, sym, subst}
+use Rattle.std.proofs.Common.{◌≡◌, ℕ, ◌&&◌, Bool, true, false, List, [], ◌∷◌, Option, Some, None, refl, sym, subst}
 use Rattle.std.specs.Prelude.{bytes_eq, codes, nat_le, option_map, option_and_then, IfSome, Result, Ok, Err, if◌then◌else◌}
+use Rattle.std.specs.Option.{option_or}
 use Rattle.std.proofs.lemmas.Bool.{leb-true}
 use Rattle.ipam_addr.specs.declared.cidrs.AddrFault.{AddrFault}
 use Rattle.ipam_addr.specs.Names.{is_name_text}
@@ -10,8 +11,11 @@ use Rattle.ipam_words.specs.declared.command.Command.{Command}
 use Rattle.ipam_words.specs.declared.kind.RowKind.{RowKind}
 use Rattle.ipam_words.specs.declared.reading.TheConstants.{MOST_WORKERS}
 use Rattle.ipam_words.specs.Kinds.{kind_named}
+use Rattle.ipam_words.specs.declared.view.Form.{Form}
+use Rattle.ipam_words.specs.declared.view.Form.TheVariants as form
+use Rattle.ipam_words.specs.Views.{AskedChoice}
 use Rattle.ipam_words.specs.Views as seen
-use Rattle.ipam_words.specs.Words.{AreWorkers, AskedCommand, call_named, is_option, Cni, Play, Apply, Get, Routes, Gen, Show, Audit, Serve, Call, Help, Version, IsSound, address_seen, asked_by, audit_named, command_named, count_named, generated_of, first_named, get_named, get_of, node_view_named, small_number_of, release_named, release_of, routes_named, second_named, serve_named, view_named, word_named, workers_of, workers_within}
+use Rattle.ipam_words.specs.Words.{AreWorkers, AskedCommand, call_named, is_option, Cni, Play, Apply, Get, Routes, Gen, Show, Audit, Serve, Call, Help, Version, IsSound, address_seen, asked_by, audit_named, count_named, generated_of, first_named, get_named, get_of, node_view_named, small_number_of, release_named, release_of, routes_named, second_named, serve_named, view_named, word_named, workers_of, workers_within, four_listed, is_json, listed, listing_named, look_named, more_named, one_chosen, other_named, show_named, three_chosen, three_listed, two_chosen, two_listed}
 
 -- what is asked, if anything, is sound
 abbrev AllSound : Option AskedCommand → Type 0
@@ -101,11 +105,10 @@ two-words : (word first : List ℕ) → AllSound (first_named word first)
 unfolding first_named
 two-words word first =
     if-sound (bytes_eq word (codes "get")) (get_named first) _ (get-sound (kind_named first))
-    (if-sound (bytes_eq word (codes "show")) (view_named first) _ (view-sound first)
     (if-sound (bytes_eq word (codes "routes")) (routes_named first) _ (routes-sound first)
     (if-sound (bytes_eq word (codes "gen")) (count_named first) _ (gen-sound (generated_of first))
     (if-sound (bytes_eq word (codes "audit")) (audit_named first) _ (audit-sound (workers_of first) (number-workers (small_number_of first)))
-    (if-sound (bytes_eq word (codes "call")) (call_named first) None (call-sound first) tt)))))
+    (if-sound (bytes_eq word (codes "call")) (call_named first) None (call-sound first) tt))))
 
 block-sound : (node : List ℕ) (read : Result CidrValue AddrFault) → is_name_text node ≡ true → AllSound (release_of node read)
 block-sound node (Ok cidr) named = named
@@ -123,8 +126,59 @@ three-words : (word first second : List ℕ) → AllSound (second_named word fir
 unfolding second_named
 three-words word first second =
     if-sound (bytes_eq word (codes "release")) (release_named first second) _ (release-sound first second)
-    (if-sound (bytes_eq word (codes "serve")) (serve_named first second) _ (address-served first second)
-    (if-sound (bytes_eq word (codes "show")) (node_view_named first second) None (node-sound first second) tt))
+    (if-sound (bytes_eq word (codes "serve")) (serve_named first second) None (address-served first second) tt)
+
+-- ---- words after `show`
+
+or-sound : (one other : Option AskedCommand) → AllSound one → AllSound other → AllSound (option_or one other)
+or-sound None other h k = k
+or-sound (Some asked) other h k = h
+
+listed-sound : (form : Form) (chosen : Option AskedChoice) → AllSound (listed form chosen)
+listed-sound form None = tt
+listed-sound form (Some chosen) = tt
+
+two-listed : (word last : List ℕ) → AllSound (two_listed word last)
+unfolding two_listed
+two-listed word last =
+    if-sound (is_json last) (listed form.Json (one_chosen word)) (listed form.Table (two_chosen word last)) (listed-sound form.Json (one_chosen word)) (listed-sound form.Table (two_chosen word last))
+
+three-listed : (word first last : List ℕ) → AllSound (three_listed word first last)
+unfolding three_listed
+three-listed word first last =
+    if-sound (is_json last) (listed form.Json (two_chosen word first)) (listed form.Table (three_chosen word first last)) (listed-sound form.Json (two_chosen word first)) (listed-sound form.Table (three_chosen word first last))
+
+four-listed : (word first second last : List ℕ) → AllSound (four_listed word first second last)
+unfolding four_listed
+four-listed word first second last =
+    if-sound (is_json last) (listed form.Json (three_chosen word first second)) None (listed-sound form.Json (three_chosen word first second)) tt
+
+listing-sound : (words : List (List ℕ)) → AllSound (listing_named words)
+listing-sound [] = tt
+listing-sound (word ∷ []) = listed-sound form.Table (one_chosen word)
+listing-sound (word ∷ last ∷ []) = two-listed word last
+listing-sound (word ∷ first ∷ last ∷ []) = three-listed word first last
+listing-sound (word ∷ first ∷ second ∷ last ∷ []) = four-listed word first second last
+listing-sound (word ∷ first ∷ second ∷ third ∷ fourth ∷ more) = tt
+
+look-sound : (words : List (List ℕ)) → AllSound (look_named words)
+look-sound [] = tt
+look-sound (word ∷ []) = view-sound word
+look-sound (word ∷ node ∷ []) = node-sound word node
+look-sound (word ∷ node ∷ other ∷ more) = tt
+
+-- ---- all words
+
+other-sound : (word : List ℕ) (more : List (List ℕ)) → AllSound (other_named word more)
+other-sound word [] = tt
+other-sound word (first ∷ []) = two-words word first
+other-sound word (first ∷ second ∷ []) = three-words word first second
+other-sound word (first ∷ second ∷ third ∷ more) = tt
+
+more-sound : (word : List ℕ) (more : List (List ℕ)) → AllSound (more_named word more)
+unfolding more_named
+more-sound word more =
+    if-sound (bytes_eq word (codes "show")) (show_named more) (other_named word more) (or-sound (look_named more) (listing_named more) (look-sound more) (listing-sound more)) (other-sound word more)
 
 -- ---- what was read
 
@@ -135,8 +189,5 @@ if-some (Some command) named is h = subst (λ (o : Option AskedCommand). AllSoun
 pub one_sound : (word : List ℕ) (read : Option Command) → option_map asked_by read ≡ word_named word → IfSome read (λ command. IsSound (asked_by command))
 one_sound word read is = if-some read (word_named word) is (one-word word)
 
-pub two_sound : (word first : List ℕ) (read : Option Command) → option_map asked_by read ≡ first_named word first → IfSome read (λ command. IsSound (asked_by command))
-two_sound word first read is = if-some read (first_named word first) is (two-words word first)
-
-pub three_sound : (word first second : List ℕ) (read : Option Command) → option_map asked_by read ≡ second_named word first second → IfSome read (λ command. IsSound (asked_by command))
-three_sound word first second read is = if-some read (second_named word first second) is (three-words word first second)
+pub more_sound : (word : List ℕ) (more : List (List ℕ)) (read : Option Command) → option_map asked_by read ≡ more_named word more → IfSome read (λ command. IsSound (asked_by command))
+more_sound word more read is = if-some read (more_named word more) is (more-sound word more)

@@ -1,8 +1,24 @@
 -- What an operator is shown.
 use Rattle.std.specs.Prelude.{ℕ, List}
-use Rattle.ipam_addr.specs.Shape.{AddrValue}
+use Rattle.ipam_addr.specs.Shape.{AddrValue, CidrValue}
+use Rattle.ipam_words.specs.declared.view.Choice.{Choice}
+use Rattle.ipam_words.specs.declared.view.Choice.TheVariants as choice
+use Rattle.ipam_words.specs.declared.view.Form.{Form}
 use Rattle.ipam_words.specs.declared.view.View.{View}
 use Rattle.ipam_words.specs.declared.view.View.TheVariants as view
+
+-- which of the addresses in use are shown, as `Choice` has it, with the name itself in place of a loan
+pub data AskedChoice : Type 0 where
+  All : AskedChoice
+  Within : CidrValue → AskedChoice
+  OfNode : List ℕ → AskedChoice
+  Borrowed : AskedChoice
+
+abbrev pub chosen_by : Choice → AskedChoice
+chosen_by choice.All = All
+chosen_by (choice.Within cidr) = Within cidr
+chosen_by (choice.OfNode node) = OfNode node.now
+chosen_by choice.Borrowed = Borrowed
 
 -- what is shown, as `View` has it, with the name itself in place of a loan
 pub data AskedView : Type 0 where
@@ -11,6 +27,7 @@ pub data AskedView : Type 0 where
   Blocks : AskedView
   Address : AddrValue → AskedView
   Node : List ℕ → AskedView
+  Addresses : AskedChoice → Form → AskedView
 
 abbrev pub seen_by : View → AskedView
 seen_by view.Pools = Pools
@@ -18,3 +35,4 @@ seen_by view.Json = Json
 seen_by view.Blocks = Blocks
 seen_by (view.Address address) = Address address
 seen_by (view.Node node) = Node node.now
+seen_by (view.Addresses chosen form) = Addresses (chosen_by chosen) form

@@ -1,6 +1,7 @@
 -- The commands that words name.
 use Rattle.std.specs.Prelude.{◌≡◌, ℕ, ◌^◌, ◌<◌, ◌≤◌, ◌==◌, nat_le, nat_lt, List, [], ◌∷◌, ◌&&◌, Bool, true, false, codes, bytes_eq, Option, Some, None, option_and_then, option_map, Result, Ok, Err, if◌then◌else◌}
 use Rattle.std.specs.Str.Parse.{digits_value}
+use Rattle.std.specs.Option.{option_or}
 use Rattle.ipam_json.specs.Path.{is_index}
 use Rattle.ipam_addr.specs.declared.cidrs.AddrFault.{AddrFault}
 use Rattle.ipam_addr.specs.Names.{is_name_text}
@@ -11,7 +12,9 @@ use Rattle.ipam_words.specs.declared.command.Command.TheVariants as command
 use Rattle.ipam_words.specs.declared.kind.RowKind.{RowKind}
 use Rattle.ipam_words.specs.declared.reading.TheConstants.{MOST_GENERATED, MOST_WORKERS}
 use Rattle.ipam_words.specs.Kinds.{kind_named}
-use Rattle.ipam_words.specs.Views.{AskedView, seen_by}
+use Rattle.ipam_words.specs.declared.view.Form.{Form}
+use Rattle.ipam_words.specs.declared.view.Form.TheVariants as form
+use Rattle.ipam_words.specs.Views.{AskedChoice, AskedView, seen_by}
 use Rattle.ipam_words.specs.Views as seen
 
 -- what is asked, as `Command` has it, with the name itself in place of a loan
@@ -119,12 +122,11 @@ call_named address = if is_option address then None else Some (Call address)
 unfoldable pub first_named : (word first : List ℕ) → Option AskedCommand
 first_named word first =
     if bytes_eq word (codes "get") then get_named first
-    else (if bytes_eq word (codes "show") then view_named first
     else (if bytes_eq word (codes "routes") then routes_named first
     else (if bytes_eq word (codes "gen") then count_named first
     else (if bytes_eq word (codes "audit") then audit_named first
     else (if bytes_eq word (codes "call") then call_named first
-    else None)))))
+    else None))))
 
 -- ---- three words
 
@@ -146,18 +148,85 @@ unfoldable pub second_named : (word first second : List ℕ) → Option AskedCom
 second_named word first second =
     if bytes_eq word (codes "release") then release_named first second
     else (if bytes_eq word (codes "serve") then serve_named first second
-    else (if bytes_eq word (codes "show") then node_view_named first second
-    else None))
+    else None)
+
+-- ---- words after `show`
+
+-- which of the addresses in use are shown
+unfoldable pub one_chosen : (word : List ℕ) → Option AskedChoice
+one_chosen word =
+    if bytes_eq word (codes "addresses") then Some seen.All
+    else (if bytes_eq word (codes "borrowed") then Some seen.Borrowed
+    else None)
+
+abbrev pub within_of : Result CidrValue AddrFault → Option AskedChoice
+within_of (Ok cidr) = Some (seen.Within cidr)
+within_of (Err fault) = None
+
+unfoldable pub two_chosen : (word block : List ℕ) → Option AskedChoice
+two_chosen word block = if bytes_eq word (codes "addresses") then within_of (cidr_reading block) else None
+
+unfoldable pub three_chosen : (word option node : List ℕ) → Option AskedChoice
+three_chosen word option node =
+    if bytes_eq word (codes "addresses") && bytes_eq option (codes "--node") && is_name_text node
+    then Some (seen.OfNode node) else None
+
+-- the addresses that are chosen, in this form
+abbrev pub listed : Form → Option AskedChoice → Option AskedCommand
+listed form None = None
+listed form (Some chosen) = Some (Show (seen.Addresses chosen form))
+
+-- whether the last word asks for JSON
+abbrev pub is_json : (last : List ℕ) → Bool
+is_json last = bytes_eq last (codes "--json")
+
+unfoldable pub two_listed : (word last : List ℕ) → Option AskedCommand
+two_listed word last =
+    if is_json last then listed form.Json (one_chosen word) else listed form.Table (two_chosen word last)
+
+unfoldable pub three_listed : (word first last : List ℕ) → Option AskedCommand
+three_listed word first last =
+    if is_json last then listed form.Json (two_chosen word first) else listed form.Table (three_chosen word first last)
+
+unfoldable pub four_listed : (word first second last : List ℕ) → Option AskedCommand
+four_listed word first second last = if is_json last then listed form.Json (three_chosen word first second) else None
+
+-- the addresses of a choice, in a table, or as JSON where the last word is `--json`
+abbrev pub listing_named : List (List ℕ) → Option AskedCommand
+listing_named [] = None
+listing_named (word ∷ []) = listed form.Table (one_chosen word)
+listing_named (word ∷ last ∷ []) = two_listed word last
+listing_named (word ∷ first ∷ last ∷ []) = three_listed word first last
+listing_named (word ∷ first ∷ second ∷ last ∷ []) = four_listed word first second last
+listing_named (word ∷ first ∷ second ∷ third ∷ fourth ∷ more) = None
+
+-- pools, blocks, an address or a node
+abbrev pub look_named : List (List ℕ) → Option AskedCommand
+look_named [] = None
+look_named (word ∷ []) = view_named word
+look_named (word ∷ node ∷ []) = node_view_named word node
+look_named (word ∷ node ∷ other ∷ more) = None
+
+abbrev pub show_named : List (List ℕ) → Option AskedCommand
+show_named words = option_or (look_named words) (listing_named words)
 
 -- ---- all words
+
+-- what the first word and those after it ask
+abbrev pub other_named : (word : List ℕ) → List (List ℕ) → Option AskedCommand
+other_named word [] = None
+other_named word (first ∷ []) = first_named word first
+other_named word (first ∷ second ∷ []) = second_named word first second
+other_named word (first ∷ second ∷ third ∷ more) = None
+
+unfoldable pub more_named : (word : List ℕ) → List (List ℕ) → Option AskedCommand
+more_named word more = if bytes_eq word (codes "show") then show_named more else other_named word more
 
 -- what the words ask, where they have a command's form
 abbrev pub command_named : List (List ℕ) → Option AskedCommand
 command_named [] = Some Cni
 command_named (word ∷ []) = word_named word
-command_named (word ∷ first ∷ []) = first_named word first
-command_named (word ∷ first ∷ second ∷ []) = second_named word first second
-command_named (word ∷ first ∷ second ∷ other ∷ more) = None
+command_named (word ∷ first ∷ more) = more_named word (first ∷ more)
 
 -- ---- what is so of whatever is asked
 

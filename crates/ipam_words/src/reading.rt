@@ -1,11 +1,12 @@
 ghost use Rattle.std.specs.Prelude.{◌≡◌, IfSome, option_map, map, string_bytes};
 ghost use Rattle.ipam_addr.specs.Text.{address_of};
-ghost use Rattle.ipam_words.specs.Words.{IsSound, address_seen, asked_by, audit_named, call_named, command_named, count_named, generated_of, first_named, get_named, is_option, node_view_named, small_number_of, release_named, routes_named, second_named, serve_named, view_named, word_named, workers_of};
+ghost use Rattle.ipam_words.specs.Words.{IsSound, asked_by, audit_named, call_named, command_named, count_named, generated_of, first_named, get_named, is_option, more_named, other_named, small_number_of, release_named, routes_named, second_named, serve_named, word_named, workers_of};
 
 use crate::command::Command;
 use crate::kind::RowKind;
+use crate::show_words::show_named;
 use crate::view::View;
-use ipam_addr::{is_name, read_addr, read_cidr};
+use ipam_addr::{is_name, read_cidr};
 use ipam_json::is_index;
 
 /// The most requests that are generated.
@@ -26,8 +27,26 @@ pub fn read_words(words: &[String]) -> Option<Command<'_>>
     match words {
         [] => Some(Command::Cni),
         [word] => word_named(word.as_str()),
-        [word, first] => first_named(word.as_str(), first.as_str()),
-        [word, first, second] => second_named(word.as_str(), first.as_str(), second.as_str()),
+        [word, more @ ..] => more_named(word.as_str(), more),
+    }
+}
+
+#[tactic(auto, unfolding(crate::specs::Words::more_named))]
+fn more_named<'a>(word: &str, more: &'a [String]) -> Option<Command<'a>>
+    ensures { option_map asked_by result ≡ more_named word.now (map string_bytes more.now) }
+{
+    match word {
+        "show" => show_named(more),
+        _ => other_named(word, more),
+    }
+}
+
+fn other_named<'a>(word: &str, more: &'a [String]) -> Option<Command<'a>>
+    ensures { option_map asked_by result ≡ other_named word.now (map string_bytes more.now) }
+{
+    match more {
+        [first] => first_named(word, first.as_str()),
+        [first, second] => second_named(word, first.as_str(), second.as_str()),
         _ => None,
     }
 }
@@ -54,7 +73,6 @@ fn first_named<'a>(word: &str, first: &'a str) -> Option<Command<'a>>
 {
     match word {
         "get" => kind_named(first),
-        "show" => view_named(first),
         "routes" => routes_named(first),
         "gen" => count_named(first),
         "audit" => audit_named(first),
@@ -90,26 +108,6 @@ fn kind_named<'a>(word: &str) -> Option<Command<'a>>
     match RowKind::of(word) {
         Some(kind) => Some(Command::Get(Some(kind))),
         None => None,
-    }
-}
-
-#[tactic(auto, unfolding(crate::specs::Words::view_named))]
-fn view_named<'a>(word: &str) -> Option<Command<'a>>
-    ensures { option_map asked_by result ≡ view_named word.now }
-{
-    match word {
-        "--json" => Some(Command::Show(View::Json)),
-        "blocks" => Some(Command::Show(View::Blocks)),
-        _ => address_named(word),
-    }
-}
-
-fn address_named<'a>(word: &str) -> Option<Command<'a>>
-    ensures { option_map asked_by result ≡ address_seen (address_of word.now) }
-{
-    match read_addr(word.as_bytes()) {
-        Ok(address) => Some(Command::Show(View::Address(address))),
-        Err(_) => None,
     }
 }
 
@@ -149,19 +147,7 @@ fn second_named<'a>(word: &str, first: &'a str, second: &'a str) -> Option<Comma
     match word {
         "release" => release_named(first, second),
         "serve" => serve_named(first, second),
-        "show" => node_named(first, second),
         _ => None,
-    }
-}
-
-#[tactic(auto, unfolding(crate::specs::Words::node_view_named))]
-fn node_named<'a>(word: &str, node: &'a str) -> Option<Command<'a>>
-    ensures { option_map asked_by result ≡ node_view_named word.now node.now }
-{
-    if word == "node" && is_name(node.as_bytes()) {
-        Some(Command::Show(View::Node(node)))
-    } else {
-        None
     }
 }
 

@@ -1,4 +1,4 @@
-use ipam_addr::Addr;
+use ipam_addr::{Addr, Cidr};
 
 /// What an operator is shown of a datastore.
 #[derive(Clone, Copy)]
@@ -13,4 +13,27 @@ pub enum View<'a> {
     Address(Addr),
     /// The blocks of the node, in a table. The name is one of a node.
     Node(&'a str),
+    /// The addresses in use that are chosen.
+    Addresses(Choice<'a>, Form),
+}
+
+/// Which of the addresses in use are shown.
+#[derive(Clone, Copy)]
+pub enum Choice<'a> {
+    All,
+    /// The addresses of the CIDR.
+    Within(Cidr),
+    /// Those that are recorded with the node. The name is one of a node.
+    OfNode(&'a str),
+    /// Those that are recorded with a node that is not their block's.
+    Borrowed,
+}
+
+/// How something is shown.
+#[derive(Clone, Copy)]
+pub enum Form {
+    /// To a person, a line each.
+    Table,
+    /// To a program.
+    Json,
 }

@@ -4,10 +4,11 @@ ghost use Rattle.ipam_call.specs.Daemon.{address_of};
 ghost use Rattle.ipam_call.specs.Values.{last_value};
 ghost use Rattle.ipam_words.specs.Daemon.{ask_of, daemon_asked};
 
+use crate::hinting::{KeptSource, hint_document};
 use crate::viewed::Viewed;
-use ipam_call::{Connector, Connects, Limits, connect_seconds, daemon_named};
+use ipam_call::{Connector, Connects, DialError, Limits, connect_seconds, daemon_named};
 use ipam_io::{Link, Sink, StdSink, StdSource};
-use ipam_operator::{apply, get, release, routes, show, unreached};
+use ipam_operator::{End, apply, get, release, routes, show, unreached};
 use ipam_text::Seq;
 use ipam_words::{Command, DaemonAsk, daemon_asked};
 use std::io;
@@ -55,16 +56,24 @@ fn unasked(rt: &HostRuntime) -> u8 {
 
 /// Asks the daemon at the address what the command asks.
 fn ask_at(rt: &HostRuntime, entries: &[Seq<u8>], address: &str, command: &Command<'_>) -> u8 {
-    match connector_of(rt, entries).connect(address) {
+    let mut connector = connector_of(rt, entries);
+    match connector.connect(address) {
         Some(link) => ask_over(rt, command, &mut Viewed::new(rt, link)),
-        None => unreached_at(rt, address),
+        None => unreached_at(rt, address, connector.why()),
     }
 }
 
 /// Tells that nobody answers at the address.
-pub(crate) fn unreached_at(rt: &HostRuntime, address: &str) -> u8 {
-    let _ = eprintln!(rt; "ipam: no daemon answers at {address:?}");
+pub(crate) fn unreached_at(rt: &HostRuntime, address: &str, why: Option<DialError>) -> u8 {
+    tell_unanswered(rt, address, why);
     unreached(&mut StdSink::new(io::writer(rt))).code()
+}
+
+/// Tells on standard error why nobody was reached at the address, if nobody was.
+pub(crate) fn tell_unanswered(rt: &HostRuntime, address: &str, why: Option<DialError>) {
+    if let Some(why) = why {
+        let _ = eprintln!(rt; "ipam: no daemon answers at {address:?}: {why}");
+    }
 }
 
 /// Asks over the link. What no daemon is asked is not sent, and told as `unasked` does.
@@ -75,7 +84,7 @@ fn ask_over<L: Link>(rt: &HostRuntime, command: &Command<'_>, link: &mut L) -> u
         Command::Show(view) => show(rt.alloc(), &mut sink, link, view),
         Command::Routes(node) => routes(rt.alloc(), &mut sink, link, node),
         Command::Release(node, block) => release(rt.alloc(), &mut sink, link, node, *block),
-        Command::Apply => apply(rt.alloc(), &mut StdSource::new(rt.stdin()), &mut sink, link),
+        Command::Apply => ask_applied(rt, &mut sink, link),
         Command::Cni
         | Command::Play
         | Command::Gen(_)
@@ -86,4 +95,12 @@ fn ask_over<L: Link>(rt: &HostRuntime, command: &Command<'_>, link: &mut L) -> u
         | Command::Version => return unasked(rt),
     };
     end.code()
+}
+
+/// Asks for the resources of the document on standard input, and tells what nobody reads of it.
+fn ask_applied<K: Sink, L: Link>(rt: &HostRuntime, sink: &mut K, link: &mut L) -> End {
+    let mut source = KeptSource::of_document(rt.alloc(), StdSource::new(rt.stdin()));
+    let end = apply(rt.alloc(), &mut source, sink, link);
+    hint_document(rt, source.document(), end.code());
+    end
 }

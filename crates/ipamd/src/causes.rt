@@ -13,7 +13,7 @@ pub(crate) trait Explains {
     fn why(&self) -> Option<StorageFault>;
 }
 
-impl<S: Alter> Explains for SqliteKeeper<S> {
+impl<S: Alter + Drop> Explains for SqliteKeeper<S> {
     fn why(&self) -> Option<StorageFault> {
         SqliteKeeper::why(self)
     }
@@ -33,7 +33,7 @@ impl Cause {
         })
     }
 
-    /// The same place.
+    /// A further handle to this place. Fails with `AllocError`.
     fn another(&self) -> Result<Cause, AllocError> {
         Ok(Cause {
             last: Arc::try_clone(&self.last)?,

@@ -6,16 +6,19 @@ ghost use Rattle.ipam_words.specs.Upkeep.{IsFit, of_upkeep};
 
 mod asking;
 mod causes;
+mod freeing;
+mod hinting;
 mod new_file;
 mod plugin;
 mod process;
 mod serving;
+mod stack;
 mod stored;
 mod telling;
 mod upkeep;
 mod viewed;
 
-use asking::{ask, asked_of, connector_of};
+use asking::{ask, asked_of, connector_of, tell_unanswered};
 use ipam_call::{call, call_variables, daemon_named, database_named};
 use ipam_command::NO_MEMORY;
 use ipam_daemon::Host;
@@ -30,6 +33,7 @@ use ipam_words::{
 use plugin::{plugin_folder, run_plugin};
 use process::{all_words, entries_of};
 use serving::serve_database;
+use stack::refused_stack;
 use std::alloc::AllocError;
 use std::fs::Files;
 use std::io;
@@ -59,7 +63,10 @@ fn run<R: Host + Files + Net<Listener = TcpListener, Stream = TcpStream> + Sync>
     let all = all_words(rt)?;
     let entries = entries_of(rt)?;
     if let Some(folder) = plugin_folder(rt, all.as_ref())? {
-        return run_plugin(rt, entries, folder.as_str());
+        return match refused_stack(rt, true)? {
+            Some(status) => Ok(status),
+            None => run_plugin(rt, entries, folder.as_str()),
+        };
     }
     let words = words_given(rt.alloc(), all)?;
     match words.as_slice() {
@@ -70,7 +77,7 @@ fn run<R: Host + Files + Net<Listener = TcpListener, Stream = TcpStream> + Sync>
     }
 }
 
-/// The same with the words and the environment.
+/// Runs what these words ask with this environment, and answers the exit status.
 fn run_asked<R: Host + Files + Net<Listener = TcpListener, Stream = TcpStream> + Sync>(
     rt: &HostRuntime,
     threads: R,
@@ -78,6 +85,9 @@ fn run_asked<R: Host + Files + Net<Listener = TcpListener, Stream = TcpStream> +
     entries: &[Seq<u8>],
     waiting: Waiting,
 ) -> Result<u8, AllocError> {
+    if let Some(status) = refused_stack(rt, is_call(words))? {
+        return Ok(status);
+    }
     if let Some(text) = help_for(rt, words)? {
         return Ok(say(rt, text.as_str(), End::Done));
     }
@@ -88,6 +98,11 @@ fn run_asked<R: Host + Files + Net<Listener = TcpListener, Stream = TcpStream> +
         return Ok(ask(rt, entries, &asked));
     }
     run_command_of(rt, threads, words, entries, waiting)
+}
+
+/// Whether the words make a CNI call.
+fn is_call(words: &[String]) -> bool {
+    matches!(read_words(words), Some(Command::Cni | Command::Call(_)))
 }
 
 /// Runs the command that the words name.
@@ -179,14 +194,16 @@ pub(crate) fn call_at(
     let mut connector = connector_of(rt, entries);
     let mut source = StdSource::new(rt.stdin());
     let mut sink = StdSink::new(io::writer(rt));
-    Ok(call(
+    let status = call(
         rt.alloc(),
         &mut connector,
         address,
         &variables,
         &mut source,
         &mut sink,
-    ))
+    );
+    tell_unanswered(rt, address, connector.why());
+    Ok(status)
 }
 
 /// Runs a command of the database, or its upkeep. It is opened once its rows are asked for.

@@ -3,12 +3,13 @@ ghost use Rattle.std.specs.Prelude.{◌≡◌, ◌≤◌};
 ghost use Rattle.ipam_io.specs.Counts.{next_count};
 ghost use Rattle.ipam_keeper.specs.Keeping.{OnFailed, UnlessFailed};
 
+use crate::causes::Explains;
 use crate::telling::{EACH_ROWS, tell_progress};
 use ipam_keeper::{KeepFault, Keeper, Row};
 use ipam_operator::Target;
-use ipam_sqlite::{FileKeeper, SqliteKeeper, StorageFault};
+use ipam_sqlite::{FileKeeper, SqliteKeeper, StorageFault, open_keeper};
 use ipam_text::Text;
-use sqlite::{Alter, File, FileStore};
+use sqlite::{File, FileStore};
 use std::alloc::AllocError;
 use std::fs::OpenOptions;
 use std::os::unix::fs::OpenOptionsExt;
@@ -31,12 +32,13 @@ pub(crate) enum NotMade {
 /// The key of no row.
 const NO_KEY: &str = "";
 
-/// A keeper over a file that was not there before. Its settling puts all rows on the disk at once. Which store the file
-/// has stays open but where it is made, since proofs over files go through the whole store of them.
-pub(crate) struct NewFile<S: Alter> {
+/// A keeper over a file that was not there before. Its settling puts all rows on the disk at once. Which keeper has the
+/// file stays open but where it is made, since proofs over files go through the whole store of them.
+#[derive(Drop)]
+pub(crate) struct NewFile<K> {
     rt: HostRuntime,
     /// None once it was closed.
-    keeper: Option<SqliteKeeper<S>>,
+    keeper: Option<K>,
     /// What folds the log into the file then.
     closing: FileKeeper,
     faults: u64,
@@ -44,25 +46,16 @@ pub(crate) struct NewFile<S: Alter> {
     copied: u64,
 }
 
-impl<S: Alter + Drop> Drop for NewFile<S> {
-    fn drop(self) {
-        let NewFile {
-            rt: _,
-            keeper: _,
-            closing: _,
-            faults: _,
-            copied: _,
-        } = self;
-    }
-}
-
-impl NewFile<FileStore<File>> {
+impl NewFile<SqliteKeeper<FileStore<File>>> {
     /// Makes the file, with no row in it.
-    pub(crate) fn make(rt: &HostRuntime, path: &str) -> Result<NewFile<FileStore<File>>, NotMade> {
+    pub(crate) fn make(
+        rt: &HostRuntime,
+        path: &str,
+    ) -> Result<NewFile<SqliteKeeper<FileStore<File>>>, NotMade> {
         match make_file(rt, path) {
             Ok(()) => Ok(NewFile {
                 rt: *rt,
-                keeper: Some(SqliteKeeper::open(rt, path)),
+                keeper: Some(open_keeper(rt, path)),
                 closing: FileKeeper::new(rt, path),
                 faults: 0,
                 copied: 0,
@@ -72,7 +65,7 @@ impl NewFile<FileStore<File>> {
     }
 }
 
-impl<S: Alter + Drop> NewFile<S> {
+impl<K: Keeper + Explains + Drop> NewFile<K> {
     /// Why the last call that failed did so.
     pub(crate) fn why(&self) -> Option<StorageFault> {
         match &self.keeper {
@@ -140,15 +133,14 @@ pub(crate) fn unmake(rt: &HostRuntime, path: &str) {
     }
 }
 
-impl<S: Alter + Drop> Keeper for NewFile<S> {
+impl<K: Keeper + Explains + Drop> Keeper for NewFile<K> {
     ghost use Rattle.std.specs.Prelude.{None, IfSome};
-    ghost use Rattle.ipam_sqlite.specs.Known.{IsOut};
 
     ghost rows = { λ _. None };
 
     ghost settled = { λ _. None };
 
-    ghost broken = { λ file. IfSome file.keeper IsOut };
+    ghost broken = { λ file. IfSome file.keeper K.broken };
 
     ghost faults = { λ file. file.faults };
 
@@ -191,7 +183,7 @@ impl<S: Alter + Drop> Keeper for NewFile<S> {
     }
 }
 
-impl<S: Alter + Drop> Target for NewFile<S> {
+impl<K: Keeper + Explains + Drop> Target for NewFile<K> {
     ghost closed = { λ _. Unit {0} };
 
     fn close(&mut self) -> Result<(), KeepFault> {

@@ -1,6 +1,7 @@
 //! The installed plugin: the program under the name `calico-ipam`, without words. The file beside it says in one line
 //! which database it opens, or which daemon it calls.
 use crate::call_at;
+use crate::freeing::Freeing;
 use crate::stored::{Use, keeper_of, tell_end};
 use ipam_call::{Database, FixedError, call_variables, database_named, fixed_text};
 use ipam_command::{CniEnd, CniFault, make_call};
@@ -164,16 +165,19 @@ fn no_database(rt: &HostRuntime) -> Result<Database, AllocError> {
 /// Replies to a call of which no database is known with the error for a database that fails.
 fn call_of_none(rt: &HostRuntime, entries: &[Seq<u8>]) -> Result<u8, AllocError> {
     let variables = call_variables(rt.alloc(), entries)?;
-    let mut keeper = keeper_of(rt, &no_database(rt)?, Use::Keep);
+    let keeper = keeper_of(rt, &no_database(rt)?, Use::Keep);
+    let mut keeper = Freeing::new(rt.alloc(), keeper);
     Ok(call_kept(rt, &variables, &mut keeper))
 }
 
 /// Makes the call over the database.
 fn call_over(rt: &HostRuntime, entries: &[Seq<u8>], database: &Database) -> Result<u8, AllocError> {
     let variables = call_variables(rt.alloc(), entries)?;
-    let mut keeper = keeper_of(rt, database, Use::Keep).waiting(Waiting::Silent);
+    let keeper = keeper_of(rt, database, Use::Keep).waiting(Waiting::Silent);
+    let mut keeper = Freeing::new(rt.alloc(), keeper);
     let status = call_kept(rt, &variables, &mut keeper);
-    tell_end(rt, database, Use::Keep, &keeper);
+    keeper.tell(rt, &variables, status);
+    tell_end(rt, database, Use::Keep, keeper.keeper());
     Ok(status)
 }
 
@@ -182,9 +186,9 @@ trait Busy {
     fn is_busy(&self) -> bool;
 }
 
-impl Busy for FileKeeper {
+impl Busy for Freeing<FileKeeper> {
     fn is_busy(&self) -> bool {
-        matches!(self.why(), Some(StorageFault::Busy))
+        matches!(self.keeper().why(), Some(StorageFault::Busy))
     }
 }
 

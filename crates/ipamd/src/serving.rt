@@ -4,12 +4,12 @@ use crate::telling::{line_of_fault, tell_no_path, tell_reading};
 use ipam_call::{Database, database_named};
 use ipam_daemon::{Host, Opening, Served, new_opening, serve, tell_in_time, tell_served};
 use ipam_io::StdSink;
-use ipam_sqlite::{SqliteKeeper, StorageFault, Waiting, fold_log};
+use ipam_sqlite::{SqliteKeeper, StorageFault, Waiting, fold_log, open_served};
 use ipam_text::{Seq, Text};
 use sqlite::{Alter, File, FileStore};
 use std::alloc::{AllocError, Global};
 use std::fs::Files;
-use std::io;
+use std::io::{self, ErrorKind};
 use std::net::{Net, TcpListener, TcpStream};
 
 /// Serves what the database has, and writes why it serves no more. The file is opened before anything
@@ -54,13 +54,13 @@ fn serve_file<R: Host + Files + Net<Listener = TcpListener, Stream = TcpStream>>
     workers: u8,
 ) -> Served {
     tell_reading(rt, path);
-    let (keeper, _place) = SqliteKeeper::open_served(rt, path, address, waiting);
+    let (keeper, _place) = open_served(rt, path, address, waiting);
     let ended = serve_opened(threads, rt.alloc(), keeper, opening, address, workers);
     // After a write that failed the disk may lack what the log seems to have.
     if ended.database.is_none() && !matches!(ended.served, Served::KeeperFault) {
         let _ = fold_log(rt, path);
     }
-    // Without memory for the line its cause is not told.
+    // Where there is no memory for the line, nothing says its cause.
     if let Ok(line) = line_of(rt, path, address, &ended) {
         let _ = tell_in_time(threads, rt.alloc(), Text::of(line));
     }
@@ -133,6 +133,11 @@ fn line_of(
         (Served::BrokenRows(number, key), _, _) => {
             let key = key.as_str();
             format!(in alloc; "ipam: {path}: its rows break the rule OR{number} at {key:?}")
+        }
+        (Served::ListenFault, _, Some(why)) if why.kind() == ErrorKind::InvalidInput => {
+            format!(in alloc;
+                "ipam: {address:?}: {why}: an address is HOST:PORT, or the path of a socket file from /"
+            )
         }
         (Served::ListenFault, _, Some(why)) => format!(in alloc; "ipam: {address:?}: {why}"),
         (Served::ListenFault, _, None) => {

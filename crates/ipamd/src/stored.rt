@@ -2,6 +2,8 @@
 ghost use Rattle.std.specs.Prelude.{IfSome};
 ghost use Rattle.ipam_words.specs.Upkeep.{IsFit, of_upkeep};
 
+use crate::freeing::Freeing;
+use crate::hinting::{KeptSource, hint_kept};
 use crate::telling::{tell_missing, tell_no_path, tell_reading, tell_why};
 use crate::upkeep::{Rows, back_up};
 use ipam_call::Database;
@@ -53,9 +55,13 @@ pub(crate) fn run_over<R: Threads + Sync>(
     if upkeep.is_some() || reads_rows(words) {
         tell_reading(rt, path_of(database));
     }
-    let mut keeper = keeper_of(rt, database, aim).waiting(waiting);
+    let keeper = keeper_of(rt, database, aim).waiting(waiting);
+    let mut keeper = Freeing::new(rt.alloc(), keeper);
     let status = run_kept(rt, threads, words, variables, upkeep, &mut keeper);
-    tell_end(rt, database, aim, &keeper);
+    if let Some(Command::Cni) = read_words(words) {
+        keeper.tell(rt, variables, status);
+    }
+    tell_end(rt, database, aim, keeper.keeper());
     status
 }
 
@@ -134,7 +140,9 @@ fn run_words<D: Keeper>(
     variables: &[(Text, Text)],
     keeper: &mut D,
 ) -> u8 {
-    let mut source = StdSource::new(rt.stdin());
+    let mut source = KeptSource::new(rt.alloc(), StdSource::new(rt.stdin()), words);
     let mut sink = StdSink::new(io::writer(rt));
-    run_command(rt.alloc(), words, variables, &mut source, &mut sink, keeper)
+    let status = run_command(rt.alloc(), words, variables, &mut source, &mut sink, keeper);
+    hint_kept(rt, words, variables, source.document(), status, keeper);
+    status
 }

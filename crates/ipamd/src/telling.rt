@@ -35,7 +35,9 @@ pub(crate) fn tell_unknown(rt: &HostRuntime, words: &[String]) {
 fn wanted_by(first: &str) -> Option<&'static str> {
     match first {
         "cni" | "play" | "apply" | "--help" | "--version" => Some("no more words"),
-        "show" => Some("no more words, or --json, blocks, IP, or node NODE"),
+        "show" => Some(
+            "no more words, or --json, blocks, IP, node NODE, addresses, addresses CIDR, addresses --node NODE, or borrowed",
+        ),
         "get" => Some(
             "no more words, or one of config, pools, reservations, block, affinity and handle",
         ),

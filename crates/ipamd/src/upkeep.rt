@@ -2,13 +2,15 @@
 ghost use Rattle.ipam_words.specs.Upkeep.{IsFit, of_upkeep};
 
 use crate::asking::{connector_of, unreached_at};
+use crate::causes::Explains;
 use crate::new_file::{NewFile, NotMade, unmake};
 use crate::telling::tell_why;
 use crate::viewed::Viewed;
 use ipam_call::Connects;
 use ipam_io::{Link, StdSink};
+use ipam_keeper::Keeper;
 use ipam_operator::{End, Target, audit, back_up_asked, back_up_kept, tell};
-use ipam_sqlite::FileKeeper;
+use ipam_sqlite::{FileKeeper, SqliteKeeper};
 use ipam_text::Seq;
 use ipam_words::Upkeep;
 use sqlite::Alter;
@@ -25,9 +27,10 @@ pub(crate) fn ask_upkeep<R: Threads + Sync>(
 ) -> u8
     requires { IsFit (of_upkeep upkeep.now) }
 {
-    match connector_of(rt, entries).connect(address) {
+    let mut connector = connector_of(rt, entries);
+    match connector.connect(address) {
         Some(link) => ask_over(rt, threads, upkeep, &mut Viewed::new(rt, link)),
-        None => unreached_at(rt, address),
+        None => unreached_at(rt, address, connector.why()),
     }
 }
 
@@ -83,7 +86,7 @@ fn filled<F: Rows, S: Alter + Drop>(
     rt: &HostRuntime,
     path: &str,
     from: &mut F,
-    mut file: NewFile<S>,
+    mut file: NewFile<SqliteKeeper<S>>,
 ) -> u8 {
     let end = from.back_up(rt, &mut file);
     finished(rt, path, file, end)
@@ -112,7 +115,12 @@ pub(crate) fn say(rt: &HostRuntime, text: &str, end: End) -> u8 {
 }
 
 /// Leaves the file where the backup is whole and told, and removes it else.
-fn finished<S: Alter + Drop>(rt: &HostRuntime, path: &str, file: NewFile<S>, end: End) -> u8 {
+fn finished<K: Keeper + Explains + Drop>(
+    rt: &HostRuntime,
+    path: &str,
+    file: NewFile<K>,
+    end: End,
+) -> u8 {
     if let Some(why) = file.why() {
         tell_why(rt, path, why);
     }

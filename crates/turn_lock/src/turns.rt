@@ -37,7 +37,7 @@ impl<O, E> Turns<O, E> {
         self.left
     }
 
-    /// Its number, from 0 to 63. No two passes of a lock have one number.
+    /// The number, from 0 to 63. No two passes of a lock have one number.
     pub fn number(&self) -> u8
         ensures is { result ≡ self.now.number }
         ensures low { (result < self.now.made) × (self.now.made ≤ MOST_PASSES) }

@@ -1,15 +1,15 @@
 use Rattle.std.proofs.Common.{◌≡◌, ◌∙◌, [], ◌∷◌, ◌++◌, Some, None, length, ap, sym, subst, rules}
 use Rattle.std.specs.Prelude.{position}
-use Rattle.std.specs.BTreeMap.{Updates}
+use Rattle.std.specs.HashMap.{Updates}
 use Rattle.std.proofs.lemmas.List.{map-append, length-map}
 use Rattle.ipam_block_text.specs.Attributes.{are_same}
 use Rattle.ipam_block_text.specs.Numbering.{borrowed}
-use Rattle.ipam_block_text.proofs.Numbers.{key_order, found_index, there_already, new_with, new_index, numbering_more}
+use Rattle.ipam_block_text.proofs.Numbers.{found_index, there_already, new_with, new_index, numbering_more}
 use Rattle.ipam_block_text.proofs.parts.number.Goals as goal
 
 pub returns-in-Some-clause-index : goal.returns-in-Some-clause-index
 returns-in-Some-clause-index c =
-    found_index c.args.numbers.now (borrowed c.args.attributes.now.items) c.args.own.now (c.as_str.result, c.as_slice.result) _ c.requires c.as_str.ensures c.as_slice.ensures c.in-Some.ensures.value
+    found_index c.args.numbers.now (borrowed c.args.attributes.now.items) c.args.own.now _ c.requires c.in-Some.ensures.value
 
 pub returns-in-Some-clause-attributes : goal.returns-in-Some-clause-attributes
 returns-in-Some-clause-attributes c =
@@ -17,7 +17,7 @@ returns-in-Some-clause-attributes c =
 
 none : (c : goal.In-Ok) → position (are_same c.args.own.now) (borrowed c.args.attributes.now.items) ≡ None
 none c =
-    found_index c.args.numbers.now (borrowed c.args.attributes.now.items) c.args.own.now (c.as_str.result, c.as_slice.result) _ c.requires c.as_str.ensures c.as_slice.ensures c.in_default.ensures.value
+    found_index c.args.numbers.now (borrowed c.args.attributes.now.items) c.args.own.now _ c.requires c.in_default.ensures.value
 
 pushed : (c : goal.In-Ok) → borrowed c.push.new.self.items ≡ borrowed c.args.attributes.now.items ++ c.args.own.now ∷ []
 pushed c = ap borrowed c.in_ok-push.ensures.items ∙ map-append (λ a. a.now) c.args.attributes.now.items (c.args.own ∷ [])
@@ -30,8 +30,8 @@ counted c =
 
 pub returns-in-Ok-clause-numbering : goal.returns-in-Ok-clause-numbering
 returns-in-Ok-clause-numbering c =
-    let updates = subst (λ n. Updates key_order c.args.numbers.now c.insert.new.self (c.as_str.result, c.as_slice.result) (Some n)) (counted c) c.in-Ok.ensures.updates in
-    numbering_more c.args.numbers.now c.insert.new.self (borrowed c.args.attributes.now.items) (borrowed c.push.new.self.items) c.args.own.now (c.as_str.result, c.as_slice.result) c.requires (none c) c.as_str.ensures c.as_slice.ensures updates (pushed c)
+    let updates = subst (λ n. Updates are_same c.args.numbers.now c.insert.new.self c.args.own.now (Some n)) (counted c) c.in-Ok.ensures.updates in
+    numbering_more c.args.numbers.now c.insert.new.self (borrowed c.args.attributes.now.items) (borrowed c.push.new.self.items) c.args.own.now c.requires (none c) updates (pushed c)
 
 pub returns-in-Ok-clause-attributes : goal.returns-in-Ok-clause-attributes
 returns-in-Ok-clause-attributes c = new_with (borrowed c.args.attributes.now.items) (borrowed c.push.new.self.items) c.args.own.now (none c) (pushed c)

@@ -26,6 +26,6 @@ loop-allocation-init c =
     let none = c.in_ok-attributes.ensures.items in
     record {
       attributes = ap borrowed none;
-      numbering = λ q. IsNumbering-empty c.new-numbers.result c.new-numbers.ensures.empty q ∙ sym (ap (λ xs. position (are_same q) (borrowed xs)) none);
+      numbering = λ q. IsNumbering-empty c.in_ok-numbers.numbers c.in_ok-numbers.ensures.empty q ∙ sym (ap (λ xs. position (are_same q) (borrowed xs)) none);
       held = ap (map placed) c.in_ok-held.ensures.items;
     }

@@ -1,0 +1,1 @@
+-- No definitions: what a hint says is for a person, and no clause needs it.
