@@ -99,9 +99,15 @@ def looks(blocks):
     yield ["show"]
     yield ["show", "--json"]
     yield ["show", "blocks"]
+    yield ["show", "config"]
+    yield ["show", "config", "--json"]
     yield ["audit", "2"]
     for node in ("a", "b", "none"):
         yield ["show", "node", node]
+        yield ["show", "node", node, "--json"]
+    for handle in ("n.c0", "n.c1", "none"):
+        yield ["show", "handle", handle]
+        yield ["show", "handle", handle, "--json"]
     for _, cidr in blocks[:2]:
         yield ["show", cidr.split("/")[0]]
     for address in ("10.0.0.1", "10.0.0.77", "10.0.1.0", "fd00::", "fd00::1:0:0:0:1"):
@@ -116,6 +122,7 @@ def questions(draw, blocks):
     yield ["get"], ""
     for kind in KINDS:
         yield ["get", kind], ""
+    yield ["show", "--metrics"], ""
     for words in looks(blocks):
         yield words, ""
     yield ["routes", "a"], ""

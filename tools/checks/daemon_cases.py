@@ -12,20 +12,26 @@ Each one that failed is told with the lines that came. The last line is `N passe
 | `pages` | the same over many handles. `page FIRST..END` writes their rows in a page so |
 | `daemon both` or `file` or `tcp` | clients of a daemon at a socket file, over TCP, or at both, by the words of `Play` |
 | `deaf` | one client that reads no reply |
+| `crowd N` | so many sessions that ask at once |
+| `heavy N` | so many sessions with a long line at once |
 | `serving ROWS` | how `serve` ends `at ADDRESS` at once, maybe with so many bytes of `room` for its line, or of `memory` |
 | `unreached` | `call ADDRESS⇒STANDARD INPUT` where nobody is. With `fail` the input is a folder |
-| `opening` | whether two openings have a text each |
+| `late SECONDS` | a call whose reply comes after so many seconds |
+| `opening` | whether two openings have a text each, which is the same for two workers |
 | `file NAME` | who may `listen` at a path, and what is there then |
 """
 
 import concurrent.futures
 import contextlib
+import errno
+import functools
 import itertools
 import json
 import os
 import re
 import resource
 import select
+import signal
 import socket
 import stat
 import subprocess
@@ -35,6 +41,7 @@ import threading
 import time
 from pathlib import Path
 
+import failing_calls
 from bad_input import TOP, Program, put_rows
 from links import PATIENCE, PIECE, Daemon, connected, free_port, received, sent
 
@@ -231,9 +238,9 @@ def told_sessions(program, folder, rows, steps):
 
 
 @contextlib.contextmanager
-def serving(program, database, address):
+def serving(program, database, address, workers=1, env=None):
     """A daemon at this address, which is stopped."""
-    daemon = Daemon(program.path, database, address=address)
+    daemon = Daemon(program.path, database, workers, env, address=address)
     try:
         yield daemon
     finally:
@@ -276,6 +283,64 @@ def ask_on(connection):
             connection.sendall(lines)
 
 
+# ---- many sessions at once
+
+# (were nobody woken who waits in the queue, it would take many times as long)
+MOST_CROWD = 5
+LINES_EACH = 40
+# The memory of a long line goes back to the system, as under the unit. To read one takes some 30 MB.
+ONE_HEAP = {"MALLOC_ARENA_MAX": "1", "MALLOC_TRIM_THRESHOLD_": "1048576"}
+HEAVY, REFUSED = '{"x":[' + ",".join(['{"a":1}'] * 32_000) + "]}", '{"refused":"line"}'
+
+
+def told_crowd(program, folder, name, _steps):
+    """Sessions whose requests wait for each other in the queue, whether all are answered, and whether that is quick."""
+    with serving(program, database_of(folder, "free"), str(folder / "s"), int(name)) as daemon:
+        clients = [Client(daemon.connect()) for _ in range(int(name))]
+        begin = time.monotonic()
+        for number, client in enumerate(clients):
+            client.send(added_and_deleted(number) * (LINES_EACH // 2))
+        answered = sum(client.line().startswith('{"answer":') for client in clients for _ in range(LINES_EACH))
+        took = time.monotonic() - begin
+    return [f"{answered} answers", "soon" if took < MOST_CROWD else f"after {took:.1f} s"]
+
+
+def added_and_deleted(number):
+    added = {"request": {"add": {"handle": f"n.c{number}", "node": "a"}}}
+    deleted = {"request": {"del": {"handle": f"n.c{number}"}}}
+    return f"{json.dumps(added)}\n{json.dumps(deleted)}\n"
+
+
+def told_heavy(program, folder, name, _steps):
+    """A long line by one session, and then by many at once: whether they take the memory of one, and give it back."""
+    with serving(program, database_of(folder, "free"), str(folder / "s"), int(name), ONE_HEAP) as daemon:
+        clients = [Client(daemon.connect()) for _ in range(int(name))]
+        first = memory_of(daemon, "VmRSS")
+        replies = replies_to_heavy(clients[:1])
+        one = memory_of(daemon, "VmHWM") - first
+        replies += replies_to_heavy(clients)
+        many, kept = memory_of(daemon, "VmHWM") - first, memory_of(daemon, "VmRSS") - first
+    told = [f"{replies.count(REFUSED)} refused"]
+    told.append("with the memory of one" if many * 2 < one * 3 else f"{many} kB, and {one} kB for one")
+    return [*told, "which is given back" if kept * 2 < one else f"{kept} kB of {one} kB stay"]
+
+
+def replies_to_heavy(clients):
+    senders = [threading.Thread(target=client.send, args=(HEAVY, "\n")) for client in clients]
+    for sender in senders:
+        sender.start()
+    replies = [client.line() for client in clients]
+    for sender in senders:
+        sender.join()
+    return replies
+
+
+def memory_of(daemon, field):
+    """The kilobytes that the system tells of the daemon's process."""
+    lines = Path(f"/proc/{daemon.process.pid}/status").read_text().splitlines()
+    return next(int(line.split()[1]) for line in lines if line.startswith(f"{field}:"))
+
+
 # ---- clients of a daemon
 
 
@@ -315,6 +380,17 @@ class Client:
             reply = self.line()
         return reply if time.monotonic() - self.began > grace - 1 else "too early"
 
+    def drip(self, text):
+        """Sends the text, and then blanks until nobody takes them."""
+        self.send(text)
+        threading.Thread(target=self.send_blanks, daemon=True).start()
+
+    def send_blanks(self):
+        with contextlib.suppress(OSError):
+            while True:
+                time.sleep(0.2)
+                self.connection.sendall(b" ")
+
     def waits(self):
         """Whether there is no reply so far."""
         return "a reply" if self.came or select.select([self.connection], [], [], 0)[0] else "no reply so far"
@@ -344,16 +420,17 @@ class Play:
     """The steps of clients of a daemon, and what is told.
 
     `serve N M` starts a daemon of N workers, which M clients reach. With no workers the system makes no thread, and
-    with `alone` none but the workers, so that they write what is told. Each client has a letter: `a > TEXT` sends a line, `a . TEXT`
-    a text without a line feed, `a <` reads a line, `a later SECONDS TEXT` sends a line again while it is refused as too
-    soon, `a waits` tells whether there is no reply so far, `a call COMMAND` makes a call over the connection, `a reset`
-    resets it, and `a !` closes it.
+    with `alone` none but the workers, so that they write what is told. With `aborted` some connections are given up
+    before they are accepted. Each client has a letter: `a > TEXT` sends a line, `a . TEXT` a text without a line feed,
+    `a drips TEXT` a text and blanks behind it, one after the other, `a <` reads a line, `a within SECONDS` one that comes
+    in time, `a later SECONDS TEXT` sends a line again while it is refused as too soon, `a waits` tells whether there is
+    no reply so far, `a call COMMAND` makes a call over the connection, `a reset` resets it, and `a !` closes it.
 
     `call COMMAND` makes a call by a connection of its own. `gone` moves the file of the database away, and `full` lets
-    the daemon open no more files until `room`. `unlinked` removes the socket file and waits for another, and `taken`
-    puts a file in its place. `knock` connects and leaves. `waits SECONDS` waits, and `works` tells whether the daemon
-    is still at work. `ended` tells its status and output, `logged` what it logged of clients and calls, `warned` what
-    else, and `get START` rows at the end.
+    the daemon open no more files until `room`. `unlinked` removes the socket file and waits for another, `taken` puts a
+    file in its place, and `there` tells what has its path. `knock` connects and leaves. `paused` stops the daemon and
+    lets it go on. `waits SECONDS` waits, and `works` tells whether the daemon is still at work. `ended` tells its status
+    and output, `logged` what it logged of clients and calls, `warned` what else, and `get START` rows at the end.
     """
 
     def __init__(self, program, folder, rows, over_tcp):
@@ -388,12 +465,18 @@ class Play:
         if word == "later":
             seconds, _, line = text.partition(" ")
             return client.later(int(seconds), line)
-        return {"<": client.line, "waits": client.waits, "reset": client.reset, "call": lambda: client.call(self.program, text)}[word]()
+        if word == "drips":
+            return client.drip(text)
+        if word == "within":
+            client.connection.settimeout(int(text))
+        return {"<": client.line, "within": client.line, "waits": client.waits, "reset": client.reset, "call": lambda: client.call(self.program, text)}[word]()
 
-    def serve(self, workers, clients, alone=None):
-        workers, is_limited = int(workers), alone is not None or workers == "0"
-        before = with_threads(workers) if is_limited else ()
-        self.daemon = Daemon(self.program.path, self.database, max(workers, 1), address=self.address, before=before)
+    def serve(self, workers, clients, how=None):
+        workers, is_limited = int(workers), how == "alone" or workers == "0"
+        more = {"before": with_threads(workers)} if is_limited else {}
+        if how == "aborted":
+            more["start"] = functools.partial(failing_calls.start, fate=aborts())
+        self.daemon = Daemon(self.program.path, self.database, max(workers, 1), address=self.address, **more)
         self.clients = {name: Client(self.daemon.connect()) for name in "abcde"[: int(clients)]}
         threads = len(os.listdir(f"/proc/{self.daemon.process.pid}/task"))
         if is_limited:
@@ -424,8 +507,19 @@ class Play:
         other.write_text("text")
         other.replace(self.address)
 
+    def there(self):
+        return [what_is_at(Path(self.address))]
+
     def waits(self, seconds):
         time.sleep(float(seconds))
+
+    def paused(self):
+        """Stops the daemon while it waits, and lets it go on: then what it waits for fails as interrupted."""
+        process = self.daemon.process
+        time.sleep(0.1)
+        process.send_signal(signal.SIGSTOP)
+        os.waitid(os.P_PID, process.pid, os.WSTOPPED)
+        process.send_signal(signal.SIGCONT)
 
     def knock(self):
         with contextlib.suppress(ConnectionError, FileNotFoundError):
@@ -467,6 +561,11 @@ class Play:
         away = Path(f"{self.database}.away")
         if away.exists():
             away.rename(self.database)
+
+
+def aborts():
+    """Connections are given up before they are accepted, a few times."""
+    return failing_calls.Call("accept4", 2, 3, 4, error=errno.ECONNABORTED)
 
 
 def told_daemon(program, folder, name, steps):
@@ -529,15 +628,44 @@ def told_call(program, folder, address, text, is_failing):
     return told_end(called.returncode, called.stdout.decode())
 
 
+def told_late(program, _folder, name, _steps):
+    with socket.create_server(("127.0.0.1", 0)) as listener:
+        replies = threading.Thread(target=reply_late, args=(listener, int(name)))
+        replies.start()
+        told = told_run(program, ["call", f"127.0.0.1:{listener.getsockname()[1]}"], CONFIGURATION, environment("DEL"))
+        replies.join()
+    return [told]
+
+
+def reply_late(listener, seconds):
+    with listener.accept()[0] as caller:
+        Client(caller).line()
+        time.sleep(seconds)
+        sent(caller, b'{"status":0,"stdout":""}\n', True)
+
+
 def told_opening(program, folder, _name, _steps):
-    """Whether two openings have a text each, of which form one is."""
-    database, texts = database_of(folder, "free"), []
+    """Whether two openings have a text each, which two sessions of one have alike, and of which form it is."""
+    database, found = database_of(folder, "free"), []
     for _ in range(2):
-        with serving(program, database, str(folder / "s")) as daemon:
-            texts.append(json.loads(daemon.session(b'{"opened":true}\n')[0])["opened"])
-    seconds, _, word = texts[0].partition("-")
-    told = [texts[0] != texts[1], bool(re.fullmatch("[0-9]+", seconds)), len(word), bool(re.fullmatch("[0-9A-Fa-f]*", word))]
-    return [" ".join(str(one).lower() for one in told)]
+        with serving(program, database, str(folder / "s"), 2) as daemon:
+            found.append(opening_texts(daemon))
+    (one, same), (other, _) = found
+    seconds, _, word = one.partition("-")
+    told = [one == same, word != other.partition("-")[2], bool(re.fullmatch("[0-9]+", seconds)), len(word)]
+    return [" ".join(str(part).lower() for part in [*told, bool(re.fullmatch("[0-9A-Fa-f]*", word))])]
+
+
+def opening_texts(daemon):
+    """The texts that two sessions have at once, each of which keeps a worker, since its collection waits."""
+    with daemon.connect() as one, daemon.connect() as other:
+        clients = [Client(one), Client(other)]
+        for client in clients:
+            client.send('{"request":{"collect":{"live":[]}}}', "\n")
+            client.line()
+        for client in clients:
+            client.send('{"opened":true}', "\n")
+        return [json.loads(client.line())["opened"] for client in clients]
 
 
 # ---- the socket file
@@ -547,7 +675,8 @@ WRITE = b'{"request":{"pool":{"cidr":"10.9.0.0/24","name":"p","size":26}}}\n'
 
 class Listening:
     """A path at which daemons are to listen: `listen` starts one beside who does already, `leave` kills it, and `close` ends
-    it. `make` makes a file that is no socket, and `remove` removes it. After each step it is told what is there."""
+    it. `modeless` starts one that may set no mode. `make` makes a file that is no socket, and `remove` removes it. After
+    each step it is told what is there."""
 
     def __init__(self, program, folder, path):
         self.program, self.folder, self.path, self.daemon, self.count = program, folder, path, None, 0
@@ -563,6 +692,13 @@ class Listening:
                 return "listens, "
         told = told_run(self.program, ["serve", str(self.path), "1"], b"", {"IPAM_DB": str(database)})
         return "refused, " if told == told_end(9, "listen fault\n") else f"{told}, "
+
+    def modeless(self):
+        words = ["timeout", str(PATIENCE), self.program.path, "serve", str(self.path), "1"]
+        more = {"env": {**os.environ, "IPAM_DB": str(self.folder / "modeless.db")}, "stderr": subprocess.DEVNULL}
+        with open(self.folder / "modeless.out", "w+b") as out:
+            status = failing_calls.run(words, failing_calls.Call("chmod", 1, error=errno.EPERM), stdout=out, **more)
+        return f"{status}, "
 
     def leave(self):
         self.daemon.process.kill()
@@ -588,11 +724,13 @@ class Listening:
         self.path.unlink()
         return ""
 
-    def there(self):
-        if not os.path.lexists(self.path):
-            return "nothing"
-        mode = self.path.lstat().st_mode
-        return "a file" if stat.S_ISREG(mode) else "a folder" if stat.S_ISDIR(mode) else f"{stat.S_IMODE(mode):o}"
+
+def what_is_at(path):
+    """What has the path: of a socket its mode."""
+    if not os.path.lexists(path):
+        return "nothing"
+    mode = path.lstat().st_mode
+    return "a file" if stat.S_ISREG(mode) else "a folder" if stat.S_ISDIR(mode) else f"{stat.S_IMODE(mode):o}"
 
 
 def told_file(program, folder, name, steps):
@@ -601,7 +739,7 @@ def told_file(program, folder, name, steps):
         path.mkdir()
     listening = Listening(program, folder, path)
     try:
-        return [getattr(listening, line)() + listening.there() for line in steps if not line.startswith("= ")]
+        return [getattr(listening, line)() + what_is_at(path) for line in steps if not line.startswith("= ")]
     finally:
         if listening.daemon is not None:
             listening.daemon.stop()
@@ -611,7 +749,8 @@ def told_file(program, folder, name, steps):
 
 KINDS = {
     "session": told_sessions, "pages": told_pages, "deaf": told_deaf, "daemon": told_daemon, "serving": told_serving,
-    "unreached": told_unreached, "opening": told_opening, "file": told_file,
+    "unreached": told_unreached, "opening": told_opening, "file": told_file, "crowd": told_crowd, "heavy": told_heavy,
+    "late": told_late,
 }  # fmt: skip
 
 
@@ -640,6 +779,8 @@ def main():
         for (title, _, name, steps), one in zip(cases, found):
             try:
                 program.want(name, title, one.result(), wanted_of(steps))
+            except failing_calls.NotThere:
+                print(f"{title}: left out, since nobody may answer the calls of another program here")
             except (OSError, ValueError, subprocess.SubprocessError) as fault:
                 program.want(name, title, repr(fault), wanted_of(steps))
     print(f"{program.tried - program.wrong} passed, {program.wrong} failed")

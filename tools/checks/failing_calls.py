@@ -1,7 +1,7 @@
 """Runs a program of which calls of the system fail, by Linux's filter of such calls and nothing else.
 
 The kernel stops the program before each call of the kinds that are named, and asks whether it is to be made or to
-fail: `Writes` says so of changes of rows, and `Call` of one call.
+fail: `Writes` says so of changes of rows, and `Call` of calls of one kind.
 """
 
 import ctypes
@@ -13,10 +13,14 @@ import select
 import socket
 import struct
 import subprocess
+import threading
 
 # The numbers of the calls, and the number of the machine, as the kernel has them.
-NAMES = ("seccomp", "pwrite64", "fdatasync", "sendto", "recvfrom", "machine")
-NUMBERS = {"x86_64": (317, 18, 75, 44, 45, 0xC000003E), "aarch64": (277, 67, 83, 206, 207, 0xC00000B7)}
+NAMES = ("seccomp", "pwrite64", "fdatasync", "sendto", "recvfrom", "accept4", "chmod", "machine")
+NUMBERS = {
+    "x86_64": (317, 18, 75, 44, 45, 288, 90, 0xC000003E),
+    "aarch64": (277, 67, 83, 206, 207, 242, 53, 0xC00000B7),
+}
 SYSTEM = dict(zip(NAMES, NUMBERS.get(platform.machine(), NUMBERS["x86_64"])))
 
 LIBC = ctypes.CDLL(None, use_errno=True)
@@ -39,7 +43,7 @@ class Writes:
     A change ends with a write of one byte behind the head of the log, which marks it as whole, and `fdatasync`.
     """
 
-    calls = ("pwrite64", "fdatasync")
+    calls, error = ("pwrite64", "fdatasync"), errno.EIO
 
     def __init__(self, fates):
         self.fates, self.count, self.is_marked = fates, 0, False
@@ -55,14 +59,14 @@ class Writes:
 
 
 class Call:
-    """The call of this kind and number fails, counted from 1."""
+    """The calls of this kind and these numbers fail, counted from 1, with this error."""
 
-    def __init__(self, call, number):
-        self.calls, self.number = (call,), number
+    def __init__(self, call, *numbers, error=errno.EIO):
+        self.calls, self.numbers, self.error, self.count = (call,), numbers, error, 0
 
     def fails(self, _call, _size, _place):
-        self.number -= 1
-        return self.number == 0
+        self.count += 1
+        return self.count in self.numbers
 
 
 def filter_of(calls):
@@ -94,7 +98,7 @@ def answer(asking, fate):
         fcntl.ioctl(asking, RECEIVE, question)
         number, _, _, call, _, _, _, _, size, place, _, _ = QUESTION.unpack(question)
         name = next(one for one in fate.calls if SYSTEM[one] == call)
-        reply = (-errno.EIO, 0) if fate.fails(name, size, place) else (0, CONTINUE)
+        reply = (-fate.error, 0) if fate.fails(name, size, place) else (0, CONTINUE)
         fcntl.ioctl(asking, SEND, REPLY.pack(number, 0, *reply))
     except OSError as error:
         # (the program may have ended meanwhile)
@@ -119,8 +123,8 @@ def watch(asking, process, fate):
     os.close(ended)
 
 
-def run(words, fate, prepare, **more):
-    """Runs the words to their end, where the fate says which calls fail. `prepare` is done in the new process."""
+def begun(words, fate, prepare, **more):
+    """Starts the words, and gives the process and the file by which the kernel asks. `prepare` is done in the process."""
     here, there = socket.socketpair()
 
     def begin():
@@ -129,12 +133,29 @@ def run(words, fate, prepare, **more):
 
     with here, there:
         try:
-            started = subprocess.Popen(words, preexec_fn=begin, **more)
+            process = subprocess.Popen(words, preexec_fn=begin, **more)
         except subprocess.SubprocessError as error:
             raise NotThere from error
-        asking = socket.recv_fds(here, 1, 1)[1][0]
+        return process, socket.recv_fds(here, 1, 1)[1][0]
+
+
+def answer_all(asking, process, fate):
+    """Answers what the kernel asks until the process has ended."""
     try:
-        watch(asking, started.pid, fate)
+        watch(asking, process.pid, fate)
     finally:
         os.close(asking)
-    return started.wait()
+
+
+def run(words, fate, prepare=lambda: None, **more):
+    """Runs the words to their end, where the fate says which calls fail. `prepare` is done in the new process."""
+    process, asking = begun(words, fate, prepare, **more)
+    answer_all(asking, process, fate)
+    return process.wait()
+
+
+def start(words, fate, **more):
+    """Starts the words, where the fate says which calls fail, and does not wait for their end."""
+    process, asking = begun(words, fate, lambda: None, **more)
+    threading.Thread(target=answer_all, args=(asking, process, fate), daemon=True).start()
+    return process

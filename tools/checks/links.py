@@ -57,9 +57,11 @@ def connected(address):
 
 class Daemon:
     """A daemon over this file, whose sessions come one after the other. It is at a port of the loopback, or at this
-    address; `before` are words before the program's own."""
+    address; `before` are words before the program's own, and `start` starts them."""
 
-    def __init__(self, program, database, workers=1, env=None, patience=PATIENCE, address=None, before=()):
+    def __init__(
+        self, program, database, workers=1, env=None, patience=PATIENCE, address=None, before=(), start=subprocess.Popen
+    ):
         self.address, self.log, self.sessions, self.patience = address, Path(f"{database}.log"), 0, patience
         if address is None:
             self.port = free_port()
@@ -67,7 +69,7 @@ class Daemon:
         whole = {"IPAM_DB": str(database), "RUST_LOG": "info", **(env or {})}
         with open(self.log, "wb") as log, open(f"{database}.out", "wb") as out:
             words = [*before, program, "serve", self.address, str(workers)]
-            self.process = subprocess.Popen(words, env=whole, stdout=out, stderr=log)
+            self.process = start(words, env=whole, stdout=out, stderr=log)
         self.connect().close()
         self.end()
 

@@ -25,7 +25,7 @@ use Rattle.ipam_commands.specs.declared.status.Status.TheVariants as status
 use Rattle.ipam_commands.specs.Changing.{ChangeEnds, ChangeWrites, outcome_status, release_line}
 use Rattle.ipam_commands.specs.Statuses.{code_of_status}
 use Rattle.ipam_commands.specs.Telling.{AreOpened, Cut, NotOpened, Opened, ReportsRows, Untold, Whole, Writes}
-use Rattle.ipam_show.specs.Shown.{shown_text}
+use Rattle.ipam_views.specs.Shown.{shown_text}
 use Rattle.ipam_commands.specs.Texts.{routes_text}
 use Rattle.ipam_show.specs.Rows.{rows_text}
 use Rattle.ipam_resources.specs.declared.resource.Resource.{Resource}

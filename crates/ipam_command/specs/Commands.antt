@@ -15,7 +15,7 @@ use Rattle.ipam_command.specs.Headline.{HasWrittenRight, HasWrittenSoFarRight, s
 use Rattle.ipam_command.specs.Generating.{HasCountedRight}
 use Rattle.ipam_commands.specs.declared.status.Status.{Status}
 use Rattle.ipam_commands.specs.Telling.{ReportsRows, Writes}
-use Rattle.ipam_show.specs.Shown.{shown_text}
+use Rattle.ipam_views.specs.Shown.{shown_text}
 use Rattle.ipam_commands.specs.Texts.{routes_text}
 use Rattle.ipam_show.specs.Rows.{rows_text}
 use Rattle.ipam_commands.specs.declared.outcome.ChangeOutcome.{ChangeOutcome}

@@ -2,14 +2,14 @@
 ghost use Rattle.std.specs.Prelude.{◌≡◌};
 ghost use Rattle.ipam_words.specs.Views.{seen_by};
 ghost use Rattle.ipam_commands.specs.Telling.{ReportsRows, Writes};
-ghost use Rattle.ipam_show.specs.Shown.{shown_text};
+ghost use Rattle.ipam_views.specs.Shown.{shown_text};
 
 use crate::loading::Loaded;
 use crate::reporting::{TellsRows, tell_rows};
 use crate::status::Status;
 use ipam_io::Sink;
 use ipam_keeper::Keeper;
-use ipam_show::shown_text;
+use ipam_views::shown_text;
 use ipam_words::View;
 use std::alloc::{AllocError, Global};
 

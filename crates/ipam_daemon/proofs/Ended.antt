@@ -1,5 +1,5 @@
 -- How the daemon ends, and what its listener's count of faults comes to.
-use Rattle.std.proofs.Common.{◌≡◌, ◌⊎◌, ℕ, Some, None, refl, sym, subst}
+use Rattle.std.proofs.Common.{◌≡◌, ◌⊎◌, ℕ, None, refl, sym, subst}
 use Rattle.ipam_shared.specs.declared.kept.Kept.{Kept}
 use Rattle.ipam_shared.specs.declared.kept.KeptFault.{KeptFault}
 use Rattle.ipam_shared.specs.declared.kept.KeptFault.TheVariants.{Keeper, Refused, Memory}
@@ -13,10 +13,6 @@ use Rattle.ipam_daemon.specs.Served.{ListenFaults}
 pub served_out : {D : Type 0} (tells : Tells D) (faults name : D → ℕ) (keeper : D) (kept : Kept D) (served : Served)
     → IsOpened tells faults name keeper 0 kept → (served ≡ NoMemory) ⊎ (served ≡ ListenFault) ⊎ (served ≡ KeeperFault) → IsEnd tells faults name keeper served None
 served_out tells faults name keeper kept served opened told = record { kept = kept; opened = opened; told = told }
-
--- there was no memory before the rows were looked at
-pub nothing_opened : {D : Type 0} (tells : Tells D) (faults name : D → ℕ) (keeper : D) → IsEnd tells faults name keeper NoMemory (Some keeper)
-nothing_opened tells faults name keeper = record { fault = Memory; not_opened = record { same_rows = refl; same = refl; fault = refl }; told = refl }
 
 of_end : (fault : KeptFault) (n n' : ℕ) → n' ≡ n → ListenFaults (end_of fault) n n'
 of_end Keeper n n' e = e

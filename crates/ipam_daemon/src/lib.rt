@@ -43,5 +43,5 @@ pub use opening::{new_opening, open_kept};
 pub use pausing::Pauses;
 pub use served::{Served, tell_served};
 pub use serves::Serves;
-pub use serving::{serve, serve_by};
+pub use serving::serve;
 pub use staff::{Staff, engage};

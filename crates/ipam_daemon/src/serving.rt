@@ -14,57 +14,20 @@ use crate::served::Served;
 use crate::staff::engage;
 use ipam_serve::Opening;
 use ipam_shared::{Keeper, Kept};
-use ipam_socket::{Address, Connection, Failed, Limits, Listens, SocketListener};
+use ipam_socket::{Connection, Failed, Limits, Listens};
 use std::alloc::{AllocError, Global};
-use std::fs::Files;
-use std::io;
-use std::net::{Net, TcpListener, TcpStream};
 
-/// Opens the keeper's rows and serves sessions of this opening at the address, by up to so many workers:
-/// at a socket file, where the address begins with a slash, and else at an IP address or the name of a
-/// host, a colon and a port. It ends where the rows are not opened or listening fails, and at once where a session ended
-/// since the keeper failed to make sure of what it did, once the try to accept a connection is over. Else it goes on
-/// as long as connections can be accepted, now or later.
-/// Sessions that are served by then are left to end with the process. The socket file is removed at the end.
-/// Where its rows are not opened, the keeper comes back. Where listening failed, the error of the system comes too.
-#[tactic(auto, using(crate::proofs::Ended::nothing_opened))]
-pub fn serve<
-    R: Host + Files + Net<Listener = TcpListener, Stream = TcpStream>,
-    D: Keeper + Send + Drop + 'static,
->(
-    rt: R,
-    alloc: Global,
-    keeper: D,
-    opening: Opening,
-    address: &str,
-    workers: u8,
-) -> (Served, Option<D>, Option<io::Error>)
-    ensures { IsEnd D.rows D.faults D.name keeper result.0 result.1 }
-{
-    let Ok((alarm, mut watch)) = Alarm::new(alloc) else {
-        return (Served::NoMemory, Some(keeper), None);
-    };
-    let limits = Limits::of_session();
-    let mut listener = SocketListener::new(&rt, alloc, Address::of(address), limits);
-    let (served, keeper) = serve_by(
-        rt,
-        alloc,
-        keeper,
-        opening,
-        &mut listener,
-        workers,
-        limits,
-        alarm,
-        &mut watch,
-    );
-    (served, keeper, listener.why())
-}
-
-/// Serves over this listener and within these limits. It ends with a fault of listening exactly where the listener
+/// Opens the keeper's rows and serves sessions of this opening, by up to so many workers, over the connections that the
+/// listener accepts, within these limits. It ends where the rows are not opened or listening fails, and at once where a
+/// session ended since the keeper failed to make sure of what it did, once the try to accept a connection is over. Else
+/// it goes on as long as connections can be accepted, now or later.
+/// Sessions that are served by then are left to end with the process. The listener is closed at the end.
+///
+/// Where its rows are not opened, the keeper comes back. It ends with a fault of listening exactly where the listener
 /// failed. After the rows were opened it ends by the keeper exactly where the watch, which is to be that of this alarm,
 /// found the alarm raised.
 #[tactic(auto, using(crate::proofs::Ended::served_out, crate::proofs::Ended::unopened))]
-pub fn serve_by<R: Host, D: Keeper + Send + Drop + 'static, L: Listens<Connection>, A: Watches>(
+pub fn serve<R: Host, D: Keeper + Send + Drop + 'static, L: Listens<Connection>, A: Watches>(
     rt: R,
     alloc: Global,
     keeper: D,

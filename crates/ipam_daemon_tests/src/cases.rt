@@ -1,5 +1,5 @@
 //! Which case a scenario is.
-use crate::{accepting, ends, queues, sessions, silent, two};
+use crate::{accepting, ends, queues, sessions, silent, sleeps, two};
 use std::alloc::AllocError;
 use std::sync::Wait;
 
@@ -24,6 +24,7 @@ fn told<R: Wait>(
         "session" => sessions::told(wait, alloc, steps),
         "two sessions" => two::told(wait, alloc, steps),
         "queue" => queues::told(wait, alloc, steps),
+        "sleeps" => sleeps::told(wait, rt, steps),
         "accepting" => accepting::told(wait, alloc, steps),
         "logged" => ends::told_logged(alloc),
         "silent" => silent::told(rt),

@@ -21,6 +21,7 @@ mod served;
 mod sessions;
 mod shared_cases;
 mod silent;
+mod sleeps;
 mod steps;
 mod team;
 mod threads;

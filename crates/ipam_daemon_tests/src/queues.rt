@@ -1,17 +1,19 @@
 //! Places in a queue, taken and left by one thread, which nobody rings.
 use crate::told::Told;
-use ipam_serve::{MOST_WAITS, Others, Place, Queue};
+use ipam_serve::{MOST_WAITS, Others, Patience, Place, Queue, Queued};
 use std::alloc::{AllocError, Global};
-use std::sync::Wait;
+use std::sync::{Arc, Wait};
 
-/// The text about these steps at a queue: each that waits writes how often it waited. Places have numbers, from 0
-/// on, and so have the others that a leave returns.
+/// The text about these steps at a queue: each that waits writes how often it waited, but for those of a session. Places
+/// have numbers, from 0 on, and so have the others that a leave returns.
 pub(crate) fn told<R: Wait>(rt: &R, alloc: Global, steps: &str) -> Result<String, AllocError> {
-    let queue = Queue::new();
+    let queue = Arc::new(alloc, Queue::new())?;
+    let mut session = Queued::new(Arc::try_clone(&queue)?, 0);
     let mut places = Vec::new(alloc);
     let mut others = Vec::new(alloc);
     let mut told = Told::new(alloc);
     for line in steps.lines() {
+        go_on(rt, &mut session, line);
         let (word, rest) = line.split_once(' ').unwrap_or((line, ""));
         let number = rest.parse().unwrap_or(0u32);
         if let Some(waits) = step(rt, &queue, &mut places, &mut others, word, number)? {
@@ -19,6 +21,18 @@ pub(crate) fn told<R: Wait>(rt: &R, alloc: Global, steps: &str) -> Result<String
         }
     }
     told.into_text()
+}
+
+/// What the session does by this line: `join` takes a place, and `settle` leaves it as before a settling.
+fn go_on<R: Wait>(rt: &R, session: &mut Queued, line: &str) {
+    match line {
+        "join" => session.enter(rt),
+        "settle" => {
+            session.leave();
+            session.before_settling(rt);
+        }
+        _ => {}
+    }
 }
 
 /// Does a step: `enter` takes a place, `leave N` leaves the one with this number, `outwait N` waits for the others

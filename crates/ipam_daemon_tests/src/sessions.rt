@@ -64,7 +64,8 @@ fn serve_each<R: Wait, S: Serves>(
     }
 }
 
-/// Serves the session whose lines these are. A gate stops it at the passes that a line `stop N..` says.
+/// Serves the session whose lines these are. A gate stops it at the passes that a line `stop N..` says. With a line
+/// `patience` the text has what its patience was asked, too.
 fn serve<R: Wait, S: Serves>(
     rt: &R,
     alloc: Global,
@@ -97,6 +98,9 @@ fn serve<R: Wait, S: Serves>(
         lines,
         told,
     );
+    if lines.contains("\npatience\n") {
+        told.push(patience.told(alloc));
+    }
 }
 
 fn tell_rows<D: Keeper + Drop>(alloc: Global, mut keeper: D, start: &str, told: &mut Told) {

@@ -1,6 +1,6 @@
 -- What `show` asks for and writes.
 use Rattle.std.specs.Prelude.{ℕ, List, [], ◌∷◌, codes, Option, Some, None, Result, Ok, Err}
-use Rattle.ipam_show.specs.Shown.{shown_text}
+use Rattle.ipam_views.specs.Shown.{shown_text}
 use Rattle.ipam_operator.specs.declared.asking.AskFault.{AskFault}
 use Rattle.ipam_operator.specs.declared.end.End.{End}
 use Rattle.ipam_operator.specs.declared.end.End.TheVariants as end
@@ -8,13 +8,17 @@ use Rattle.ipam_operator.specs.Telling.{fault_end, fault_line}
 use Rattle.ipam_records.specs.declared.call.Row.{Row}
 use Rattle.ipam_records.specs.Datastore.{Datastore}
 use Rattle.ipam_words.specs.declared.kind.RowKind.{RowKind}
-use Rattle.ipam_words.specs.declared.kind.RowKind.TheVariants.{Pools, Reservations, Block, Affinity}
+use Rattle.ipam_words.specs.declared.kind.RowKind.TheVariants.{Config, Pools, Reservations, Block, Affinity, Handle}
 use Rattle.ipam_words.specs.Views.{AskedView}
+use Rattle.ipam_words.specs.Views as seen
 use Rattle.ipam_operator.specs.Datastore.{datastore_of}
 
--- the kinds that are asked for: of the configuration and of handles nothing is shown
-abbrev pub kinds_shown : List RowKind
-kinds_shown = Pools ∷ Reservations ∷ Block ∷ Affinity ∷ []
+-- the kinds of which something is shown, which are asked for
+abbrev pub kinds_shown : AskedView → List RowKind
+kinds_shown (seen.Handle handle form) = Block ∷ Handle ∷ []
+kinds_shown (seen.Config form) = Config ∷ []
+kinds_shown seen.Metrics = Config ∷ Pools ∷ Reservations ∷ Block ∷ Affinity ∷ Handle ∷ []
+kinds_shown _ = Pools ∷ Reservations ∷ Block ∷ Affinity ∷ []
 
 -- what is written of the datastore of the rows; rows of none are no reply
 abbrev pub said_of : AskedView → Option Datastore → List ℕ

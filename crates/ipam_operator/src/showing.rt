@@ -16,11 +16,27 @@ use crate::paging::ask_rows;
 use crate::telling::{tell, tell_fault, tell_made};
 use ipam_io::{Link, Sink};
 use ipam_records::Row;
-use ipam_show::shown_text;
+use ipam_views::shown_text;
 use ipam_words::{RowKind, View};
 use std::alloc::{AllocError, Global};
 
-/// The kinds of rows of which something is shown.
+/// The kinds of rows of which a handle's addresses and counts are shown.
+const HANDLE_KINDS: [RowKind; 2] = [RowKind::Block, RowKind::Handle];
+
+/// The kind of rows of which the configuration is shown.
+const CONFIG_KINDS: [RowKind; 1] = [RowKind::Config];
+
+/// The kinds of rows of which numbers are shown: all.
+const ALL_KINDS: [RowKind; 6] = [
+    RowKind::Config,
+    RowKind::Pools,
+    RowKind::Reservations,
+    RowKind::Block,
+    RowKind::Affinity,
+    RowKind::Handle,
+];
+
+/// The kinds of rows of which anything else is shown.
 const KINDS: [RowKind; 4] = [
     RowKind::Pools,
     RowKind::Reservations,
@@ -28,11 +44,11 @@ const KINDS: [RowKind; 4] = [
     RowKind::Affinity,
 ];
 
-/// Asks the daemon for its pools, reservations, blocks and affinities, page by page, and writes what is asked
-/// of them, as the same word does over a file. Rows of two pages may have stood at two moments.
+/// Asks the daemon for the rows of which something is shown, page by page, and writes what is asked of them, as the same
+/// words do over a file. Rows of two pages may have stood at two moments.
 pub fn show<K: Sink, L: Link>(alloc: Global, sink: &mut K, link: &mut L, view: &View<'_>) -> End
     ensures told { (came : Result (List RowText) Fault) × (held : List ℕ)
-        × AsksRows kinds_shown [] came
+        × AsksRows (kinds_shown (seen_by view.now)) [] came
         (record {
           sent = L.written link.old;
           send_faults = L.write_faults link.old;
@@ -49,9 +65,21 @@ pub fn show<K: Sink, L: Link>(alloc: Global, sink: &mut K, link: &mut L, view: &
         (K.write_faults sink.old) (K.write_faults sink.new) (show_said (seen_by view.now) came) (show_end came) result }
     ensures rest { K.write_rest sink.new ≡ K.write_rest sink.old }
 {
-    match ask_rows(alloc, link, &KINDS) {
+    match ask_rows(alloc, link, kinds_shown(view)) {
         Ok(rows) => tell_rows(alloc, sink, view, rows.as_slice()),
         Err(fault) => tell_fault(sink, fault),
+    }
+}
+
+/// The kinds of rows of which something is shown.
+fn kinds_shown(view: &View<'_>) -> &'static [RowKind]
+    ensures { result.now ≡ kinds_shown (seen_by view.now) }
+{
+    match view {
+        View::Handle(_, _) => &HANDLE_KINDS,
+        View::Config(_) => &CONFIG_KINDS,
+        View::Metrics => &ALL_KINDS,
+        _ => &KINDS,
     }
 }
 

@@ -1,6 +1,6 @@
 -- What a line that asks for routes, rows or usage comes to.
 use Rattle.std.proofs.Common.{◌≡◌, ◌↔◌, ◌<◌, ℕ, ◌+◌, arith, ltb-true, lt-ltb, Bool, true, false, inl, List, [], Option, Some, None, Result, Ok, Err, refl, sym, ap, ◌∙◌, subst}
-use Rattle.std.specs.Prelude.{IfOk, nat_lt}
+use Rattle.std.specs.Prelude.{IfOk, OnErr, nat_lt}
 use Rattle.ipam_model.specs.Cluster.{RunningRequest}
 use Rattle.ipam_model.specs.History.{store_at}
 use Rattle.ipam_records.specs.declared.key.Key.{Key}
@@ -21,13 +21,16 @@ use Rattle.ipam_shared.specs.declared.faults.SharedFault.TheVariants.{Inner, Spe
 use Rattle.ipam_shared.specs.PassValue.{PassValue}
 use Rattle.ipam_shared.specs.Passes.{runs_in}
 use Rattle.ipam_serve.specs.declared.ran.Broken.{Broken}
+use Rattle.ipam_serve.specs.declared.ran.Broken.TheVariants.{Halted, Worn, Memory}
+use Rattle.ipam_serve.specs.Faults.{OnMemory}
 use Rattle.ipam_serve.specs.Gains.{TookTurns}
 use Rattle.ipam_serve.specs.Lines.{BreaksOff, Replies, Server, page_seen, server_at, since_in}
 use Rattle.ipam_serve.specs.Looks.{IsUsage}
 use Rattle.ipam_serve.specs.Runs.{IsAtRest}
-use Rattle.ipam_serve.specs.Turns.{IsToldOf}
+use Rattle.ipam_serve.specs.Turns.{IsInFeed, IsToldOf}
 use Rattle.ipam_serve.proofs.LineParts.{reads-none}
 use Rattle.ipam_serve.proofs.Turning.{passed-nothing, took-spared}
+use Rattle.ipam_serve.proofs.Wearing.{le_of_not-lt}
 
 -- ---- what became of the routes
 
@@ -80,6 +83,19 @@ pub told-faults : {T : Type 0} (old new : PassValue) (revision : ℕ) → 0 < ol
     → IfOk r (IsToldOf fault) → IfOk r (λ since. since ≡ since_in new revision)
 told-faults {T} old new revision some_left fault (Ok since) compacted ahead h = told-fault {T = T} old new revision some_left fault since compacted ahead h
 told-faults old new revision some_left fault (Err broken) compacted ahead h = tt
+
+-- where only memory was wanting the revision is one of the feed's
+pub in-feed : {T S : Type 0} (old new : PassValue) (revision : ℕ) → 0 < old.left → (fault : SharedFault SinceFault) (r : Result S Broken)
+    → ((floor : ℕ) → (◌≡◌ {A = Result T (SharedFault SinceFault)} (Err fault) (Err (Inner (fault_of.Compacted floor)))) ↔ (0 < old.left × IsCompacted new.base new.seen revision floor))
+    → ((above : ℕ) → (◌≡◌ {A = Result T (SharedFault SinceFault)} (Err fault) (Err (Inner (fault_of.Ahead above)))) ↔ (0 < old.left × IsAhead new.base new.seen revision above))
+    → OnErr r (fault ≡ Inner fault_of.Memory) → OnMemory r (IsInFeed new revision)
+in-feed old new revision some_left fault (Ok value) compacted ahead is = tt
+in-feed old new revision some_left fault (Err Halted) compacted ahead is = tt
+in-feed old new revision some_left fault (Err Worn) compacted ahead is = tt
+in-feed old new revision some_left fault (Err Memory) compacted ahead is = (
+  le_of_not-lt revision (floor_in new.base new.seen) (λ less. let e = (compacted (floor_in new.base new.seen)).1 (some_left, (less, refl)) in cc (e, is)),
+  le_of_not-lt (store_at new.base new.seen).counter revision (λ less. let e = (ahead (store_at new.base new.seen).counter).1 (some_left, (less, refl)) in cc (e, is)),
+)
 
 -- ---- the line
 

@@ -19,12 +19,12 @@ use Rattle.ipam_serve.specs.declared.ends.SessionEnd.{SessionEnd}
 use Rattle.ipam_serve.specs.declared.ends.SessionEnd.TheVariants as end
 use Rattle.ipam_serve.specs.declared.ran.Broken.{Broken}
 use Rattle.ipam_serve.specs.declared.ran.Broken.TheVariants.{Halted, Worn, Memory}
-use Rattle.ipam_serve.specs.Faults.{OnWorn}
+use Rattle.ipam_serve.specs.Faults.{OnMemory, OnWorn}
 use Rattle.ipam_serve.specs.Gains.{Gained, Passed, Settles, asked_after, request_running, calls_in}
 use Rattle.ipam_serve.specs.Keeping.{AtKeeper}
-use Rattle.ipam_serve.specs.Lines.{BreaksOff, Replies, Server, TellsOpened, WearsOut, asked_by, server_at}
+use Rattle.ipam_serve.specs.Lines.{BreaksOff, FoundNone, Replies, Server, TellsOpened, WearsOut, asked_by, server_at}
 use Rattle.ipam_serve.specs.Runs.{Taker}
-use Rattle.ipam_serve.specs.Sessions.{AsksOnce, Ends, EndsReply, Exchange, Exchanges, IsCause, IsStopped, Leaves, LeavesUndone, LeavesUnsettled, LeavesUntold, Nothing, ReadsLine, Rest, Serves, Session, StopsLast, Sums, Talk, Talks, ToldLine, Undone, Unsettled, Unsettles, Untold, end_of, lines_in, lines_read, server_before, talk_at, unsure, with_pass}
+use Rattle.ipam_serve.specs.Sessions.{AsksOnce, Ends, EndsReply, Exchange, Exchanges, IsCause, IsStopped, Leaves, LeavesUndone, LeavesUnsettled, LeavesUntold, Nothing, ReadsLine, Rest, Serves, Session, StopsLast, Sums, Talk, Talks, ToldLine, Undone, Unsettled, Unsettles, Untold, WhenMemory, end_of, lines_in, lines_read, server_before, talk_at, unsure, with_pass}
 use Rattle.ipam_serve.proofs.Entries.{of_slot-told}
 use Rattle.ipam_serve.proofs.Running.{none-asked}
 use Rattle.ipam_serve.proofs.Turning.{Went, passed-nothing, passed-then, then-gained, took-nothing, went-settles, went-slot, went-spared, went-then, went-took}
@@ -225,11 +225,18 @@ module _ (at : AtKeeper) (line : List ℕ) (old new : Talk) (turns : Option ℕ)
   reads-new = record { is_line = reads.is_line; bytes = reads.bytes ∙ ap (prepend_known (line ++ 10 ∷ [])) (sym same) }
 
   -- it was not done to its end
-  pub ends-undone : (why : Broken) → BreaksOff (asked_by line) (with_turns turns old.server) new.server → OnWorn {T = Reply} (Err why) (WearsOut (asked_by line) old.server.taker.pass new.server.taker.pass) → new.written ≡ mid → at.came None old.server.taker.pass new.server.taker.pass → Ends at (end_of why) old new
-  ends-undone why breaks worn written keeper = record { rest = Undone line; leaves = leaves; cause = cause why worn }
+  pub ends-undone : (why : Broken) → BreaksOff (asked_by line) (with_turns turns old.server) new.server → OnWorn {T = Reply} (Err why) (WearsOut (asked_by line) old.server.taker.pass new.server.taker.pass)
+      → OnMemory {T = Reply} (Err why) ((new.server ≡ with_turns turns old.server) ⊎ FoundNone (asked_by line) (with_turns turns old.server) new.server) → new.written ≡ mid → at.came None old.server.taker.pass new.server.taker.pass → Ends at (end_of why) old new
+  ends-undone why breaks worn memory written keeper = record { rest = Undone line; leaves = leaves; cause = cause why worn }
     where
-      leaves : LeavesUndone at line old new
-      leaves = record { asks = asks; reads = reads-new; breaks = subst (λ t. BreaksOff (asked_by line) (with_turns t old.server) new.server) same_turns breaks; writes = written ∙ kept; keeper = keeper }
+      found : (b : Broken) → OnMemory {T = Reply} (Err b) ((new.server ≡ with_turns turns old.server) ⊎ FoundNone (asked_by line) (with_turns turns old.server) new.server)
+          → WhenMemory (end_of b) ((new.server ≡ old.server) ⊎ FoundNone (asked_by line) old.server new.server)
+      found Halted m = tt
+      found Worn m = tt
+      found Memory m = subst (λ t. (new.server ≡ with_turns t old.server) ⊎ FoundNone (asked_by line) (with_turns t old.server) new.server) same_turns m
+
+      leaves : LeavesUndone at (end_of why) line old new
+      leaves = record { asks = asks; reads = reads-new; breaks = subst (λ t. BreaksOff (asked_by line) (with_turns t old.server) new.server) same_turns breaks; memory = found why memory; writes = written ∙ kept; keeper = keeper }
 
       cause : (b : Broken) → OnWorn {T = Reply} (Err b) (WearsOut (asked_by line) old.server.taker.pass new.server.taker.pass) → IsCause (end_of b) (Undone line) old.coming old.server.taker.pass new.server.taker.pass
       cause Halted w = inr tt

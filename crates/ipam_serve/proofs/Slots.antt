@@ -1,5 +1,5 @@
 -- What runs in the slot of a pass that took a turn.
-use Rattle.std.proofs.Common.{◌≡◌, ◌<◌, ℕ, ◌+◌, arith, Bool, true, false, List, [], ◌∷◌, ◌++◌, Option, Some, None, IsTrue, refl, sym, ap, ◌∙◌, subst}
+use Rattle.std.proofs.Common.{◌≡◌, ◌<◌, ℕ, ◌+◌, arith, Bool, true, false, List, [], ◌∷◌, ◌++◌, Option, Some, None, IsSome, IsTrue, refl, sym, ap, ◌∙◌, subst}
 use Rattle.std.specs.Prelude.{not, if◌then◌else◌}
 use Rattle.ipam_records.specs.Datastore.{Datastore}
 use Rattle.ipam_records.specs.Word.{waits}
@@ -86,6 +86,15 @@ waits-so (Some running) e = from (waits running.word) e
 pub waiting-so : (o : Option RunningRequest) → is_waiting o ≡ true → state_of o ≡ state.Waiting
 waiting-so None e = absurd (cc e)
 waiting-so (Some running) e = ap (λ b. if b then state.Waiting else state.Running) e
+
+-- what runs and does not wait makes calls
+pub running-so : (o : Option RunningRequest) → IsSome o → (state_of o ≡ state.Waiting → ⊥) → state_of o ≡ state.Running
+running-so None some never = absurd (cc some)
+running-so (Some running) some never = from (waits running.word) never
+  where
+    from : (b : Bool) → ((if b then state.Waiting else state.Running) ≡ state.Waiting → ⊥) → (if b then state.Waiting else state.Running) ≡ state.Running
+    from true never = absurd (never refl)
+    from false never = refl
 
 -- no request but a collection has times
 times-early : (request : Request) (since grace at : ℕ) → grace_of request ≡ Some (record { at = since; grace = grace }) → at < since + grace → is_due request at ≡ false

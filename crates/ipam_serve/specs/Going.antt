@@ -1,5 +1,5 @@
 -- What comes of what runs, all in one.
-use Rattle.std.specs.Prelude.{◌≡◌, ℕ, true, [], Option, Some, None, Result, IsSome, IfOk, IfSome, OnOk, OnErr, option_map}
+use Rattle.std.specs.Prelude.{◌≡◌, ◌⊎◌, ℕ, true, [], Option, Some, None, Result, IsSome, IfOk, IfSome, OnOk, OnErr, option_map}
 use Rattle.ipam_io.specs.Counts.{next_count}
 use Rattle.ipam_shared.specs.Giving.{Gives}
 use Rattle.ipam_shared.specs.Kept.{Tells}
@@ -9,7 +9,7 @@ use Rattle.ipam_model.specs.CanAnswer.{CanAnswer}
 use Rattle.ipam_shared.specs.Passes.{runs_in}
 use Rattle.ipam_serve.specs.declared.ran.Broken.{Broken}
 use Rattle.ipam_serve.specs.declared.ran.Ran.{Ran}
-use Rattle.ipam_serve.specs.Faults.{IfAnswered, IsWorn, OnWaits, OnWorn, answer_ran, spared_by}
+use Rattle.ipam_serve.specs.Faults.{FoundOnWay, FoundRoom, IfAnswered, IsWorn, OnMemory, OnWaits, OnWorn, answer_ran, spared_by}
 use Rattle.ipam_serve.specs.Gains.{TookTurns, request_running, is_waiting}
 use Rattle.ipam_serve.specs.Keeping.{MakesCalls}
 use Rattle.ipam_serve.specs.Runs.{DoesDeed, DoesPart, Taker, WentOn}
@@ -23,6 +23,7 @@ module _ {D : Type 0} (tells : Tells D) (gives : Gives D) (faults : D → ℕ) w
     pub no_step : OnErr result (TookTurns old.pass [] 1 new.pass)
     pub passed : new.turns ≡ option_map next_count old.turns
     pub worn : OnWorn result (IsWorn 0 old.pass new.pass)
+    pub memory : OnMemory result (FoundRoom old.pass new.pass)
     pub keeper : MakesCalls tells gives faults old.pass new.pass
 
   -- What runs went on to its answer or until it waits, or as far as it came.
@@ -32,6 +33,7 @@ module _ {D : Type 0} (tells : Tells D) (gives : Gives D) (faults : D → ℕ) w
     pub can_answer : (request : Request) → request_running (runs_in old.pass) ≡ Some request → IfOk result (λ ran. IfAnswered ran (CanAnswer request))
     pub waits : IfOk result (λ ran. OnWaits ran (is_waiting (runs_in new.pass) ≡ true))
     pub worn : OnWorn result (IsWorn 0 old.pass new.pass)
+    pub memory : OnMemory result (FoundRoom old.pass new.pass)
     pub runs : OnWorn result (IsSome (runs_in new.pass))
     pub keeper : MakesCalls tells gives faults old.pass new.pass
 
@@ -41,6 +43,7 @@ module _ {D : Type 0} (tells : Tells D) (gives : Gives D) (faults : D → ℕ) w
     pub broken : OnErr result (WentOn old None 1 new)
     pub can_answer : (request : Request) → request_running (runs_in old.pass) ≡ Some request → IfOk result (λ found. IfSome found (CanAnswer request))
     pub worn : OnWorn result (IsWorn 0 old.pass new.pass)
+    pub memory : OnMemory result (FoundRoom old.pass new.pass ⊎ (is_waiting (runs_in new.pass) ≡ true))
     pub runs : OnWorn result (IsSome (runs_in new.pass))
     pub keeper : MakesCalls tells gives faults old.pass new.pass
 
@@ -51,6 +54,7 @@ module _ {D : Type 0} (tells : Tells D) (gives : Gives D) (faults : D → ℕ) w
     pub can_answer : IfOk result (CanAnswer request)
     pub idle : OnOk result (runs_in new.pass ≡ None)
     pub worn : OnWorn result (IsWorn 0 old.pass new.pass)
+    pub memory : OnMemory result (FoundOnWay request old.pass new.pass)
     pub collects : OnWorn result (waits_of request ≡ 1)
     pub runs : OnWorn result (IsSome (runs_in new.pass))
     pub keeper : MakesCalls tells gives faults old.pass new.pass

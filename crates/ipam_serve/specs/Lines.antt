@@ -32,6 +32,8 @@ use Rattle.ipam_shared.specs.Passes.{runs_in}
 use Rattle.ipam_serve.specs.declared.ran.Ran.{Ran}
 use Rattle.ipam_serve.specs.declared.ran.Ran.TheVariants.{Answered, Waits}
 use Rattle.ipam_serve.specs.Gains.{Gained, Spends, is_early, is_waiting}
+use Rattle.ipam_serve.specs.Faults.{FoundFed, FoundOnWay, FoundRoom}
+use Rattle.ipam_serve.specs.Turns.{IsInFeed}
 use Rattle.ipam_serve.specs.Runs.{DoesDeed, DoesPart, Taker}
 use Rattle.ipam_serve.specs.Spans.{Begins, Calls, Deed, Nothing, Stops, list_deed, waits_of}
 
@@ -240,6 +242,39 @@ pub record WearsOut (asked : Option Wish) (old new : PassValue) : Type 0 where
       ⊎ ((wants_entry asked ≡ true) × (2 ^ 62 ≤ moment_of new.base new.seen) × Spends (suc (spared_in asked)) old new)
   pub unanswered : IsUnanswered old new
   pub untaken : KeepsTurn asked old new
+
+-- ---- no memory
+
+-- the pass was left with fewer turns
+abbrev pub TookTurn : (old new : Server) → Type 0
+TookTurn old new = new.taker.pass.left < old.taker.pass.left
+
+-- the request of a CNI call was answered, and its reply takes memory
+abbrev pub WasAnswered : Request → (old new : Taker) → Type 0
+WasAnswered request old new = (told : Answer) × DoesDeed old (Calls request) (Some told) 1 new
+
+-- the request of a CNI call is not answered, or its reply is not made, for want of memory
+abbrev pub FoundInCall : Request → (old new : Taker) → Type 0
+FoundInCall request old new = FoundOnWay request old.pass new.pass ⊎ WasAnswered request old new
+
+-- What is so of a line that was read and found no memory: a turn was taken that found so, and that made no entry. So a
+-- request was not worn, a second list neither worn nor too soon, and the routes after a revision neither compacted nor
+-- ahead. The texts of a CNI call take memory too, and so does the text of the opening. A line that asks nothing takes
+-- none, nor does a stop.
+abbrev pub FoundNone : Option Wish → (old new : Server) → Type 0
+FoundNone None old new = ⊥
+FoundNone (Some (wish.Cni env stdin)) old new =
+    (new ≡ old)
+    ⊎ ((request : Request) × (version : Version) × (call_begun env stdin ≡ Some (Runs request version)) × FoundInCall request old.taker new.taker)
+FoundNone (Some (wish.Request request)) old new = FoundRoom old.taker.pass new.taker.pass
+FoundNone (Some (wish.Feed live)) old new =
+    (at : ℕ) × (old.ahead ≡ prepend_known_readings (at ∷ []) new.ahead) × FoundFed old.taker.pass at new.taker.pass
+FoundNone (Some wish.Stop) old new = ⊥
+FoundNone (Some wish.Routes) old new = TookTurn old new
+FoundNone (Some (wish.RoutesSince revision)) old new = TookTurn old new × IsInFeed new.taker.pass revision
+FoundNone (Some (wish.Rows kind after)) old new = TookTurn old new
+FoundNone (Some wish.Usage) old new = TookTurn old new
+FoundNone (Some wish.Opened) old new = new ≡ old
 
 -- ---- parts of a line
 

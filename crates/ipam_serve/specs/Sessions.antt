@@ -18,7 +18,7 @@ use Rattle.ipam_serve.specs.declared.ran.Broken.{Broken}
 use Rattle.ipam_serve.specs.declared.ran.Broken.TheVariants as broken
 use Rattle.ipam_serve.specs.Gains.{Gained, Passed, Settles}
 use Rattle.ipam_serve.specs.Keeping.{AtKeeper}
-use Rattle.ipam_serve.specs.Lines.{BreaksOff, Replies, Server, TellsOpened, WearsOut, asked_by}
+use Rattle.ipam_serve.specs.Lines.{BreaksOff, FoundNone, Replies, Server, TellsOpened, WearsOut, asked_by}
 use Rattle.ipam_serve.specs.Runs.{Taker}
 
 -- ---- lines and replies
@@ -101,12 +101,19 @@ pub record CantSettle (pass : PassValue) : Type 0 where
   pub few : pass.left < 2
   pub unsure : KnowsSure pass → ⊥
 
+-- a fact where the session ended for want of memory
+abbrev pub WhenMemory : SessionEnd → Type 0 → Type 0
+WhenMemory end.Memory p = p
+WhenMemory other p = ⊤
+
 module _ (at : AtKeeper) where
-  -- the gate was asked, and the line was read, and done as far as it came
-  pub record LeavesUndone (line : List ℕ) (old new : Talk) : Type 0 where
+  -- The gate was asked, and the line was read, and done as far as it came. Where memory was wanting, nothing was
+  -- done, or what the line asks found none.
+  pub record LeavesUndone (how : SessionEnd) (line : List ℕ) (old new : Talk) : Type 0 where
     pub asks : AsksOnce old new
     pub reads : ReadsLine line old.coming new.coming
     pub breaks : BreaksOff (asked_by line) old.server new.server
+    pub memory : WhenMemory how ((new.server ≡ old.server) ⊎ FoundNone (asked_by line) old.server new.server)
     pub writes : new.written ≡ old.written
     pub keeper : at.came None old.server.taker.pass new.server.taker.pass
 
@@ -152,7 +159,7 @@ module _ (at : AtKeeper) where
 
   abbrev pub Leaves : SessionEnd → Rest → Talk → Talk → Type 0
   Leaves how Nothing old new = new ≡ asked_once old
-  Leaves how (Undone line) old new = LeavesUndone line old new
+  Leaves how (Undone line) old new = LeavesUndone how line old new
   Leaves how (Unsettled line reply) old new = LeavesUnsettled how line reply old new
   Leaves how (Untold line reply) old new = LeavesUntold line reply old new
 

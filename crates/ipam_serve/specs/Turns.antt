@@ -1,17 +1,19 @@
 -- What a session's turns come to.
-use Rattle.std.specs.Prelude.{◌≡◌, ℕ, ◌+◌, ◌<◌, true, false, List, [], ◌∷◌, Option, Some, None, Result, IfSome, IfNone, OnOk, option_map}
+use Rattle.std.specs.Prelude.{◌≡◌, ℕ, ◌+◌, ◌<◌, ◌≤◌, true, false, List, [], ◌∷◌, Option, Some, None, Result, IfSome, IfNone, OnOk, option_map}
 use Rattle.ipam_model.specs.declared.answer.Answer.{Answer}
 use Rattle.ipam_model.specs.declared.entry.Called.{Called as OneCall}
 use Rattle.ipam_model.specs.declared.entry.Entry.{Entry}
 use Rattle.ipam_model.specs.declared.entry.Entry.TheVariants as entry
 use Rattle.ipam_model.specs.declared.request.Request.{Request}
 use Rattle.ipam_model.specs.CanAnswer.{CanAnswer}
+use Rattle.ipam_model.specs.History.{store_at}
 use Rattle.ipam_store.specs.declared.feed_fault.SinceFault.{SinceFault}
 use Rattle.ipam_store.specs.declared.feed_fault.SinceFault.TheVariants as fault_of
 use Rattle.ipam_session.specs.declared.route.Since.{Since}
 use Rattle.ipam_session.specs.declared.route.Since.TheVariants.{Ahead, Compacted}
 use Rattle.ipam_shared.specs.declared.faults.SharedFault.{SharedFault}
 use Rattle.ipam_shared.specs.declared.faults.SharedFault.TheVariants.{Inner, SpentPass}
+use Rattle.ipam_shared.specs.Feed.{floor_in}
 use Rattle.ipam_shared.specs.PassValue.{PassValue}
 use Rattle.ipam_shared.specs.Passes.{runs_in}
 use Rattle.ipam_serve.specs.declared.ran.Broken.{Broken}
@@ -51,6 +53,11 @@ Fed old live at feeding.Fed new =
     TookTurns old (entry.Fed old.slot at live ∷ []) 0 new × (is_early (runs_in old) at ≡ false)
 Fed old live at feeding.TooSoon new =
     TookTurns old [] 1 new × (is_early (runs_in old) at ≡ true) × (is_waiting (runs_in new) ≡ true)
+
+-- the changes after the revision are still known, and the revision is not ahead
+abbrev pub IsInFeed : PassValue → (revision : ℕ) → Type 0
+IsInFeed pass revision =
+    (floor_in pass.base pass.seen ≤ revision) × (revision ≤ (store_at pass.base pass.seen).counter)
 
 -- the fault tells this of the routes
 abbrev pub IsToldOf : SharedFault SinceFault → Since → Type 0

@@ -20,6 +20,7 @@ mod session;
 mod settling;
 mod sleeps;
 mod turns;
+mod wishes;
 
 pub use ends::SessionEnd;
 pub use gates::SessionGate;
@@ -34,3 +35,4 @@ pub use queued::Queued;
 pub use ran::{Broken, Ran};
 pub use requests::{run_call, run_feed, run_request};
 pub use session::serve_session;
+pub use wishes::ReadsWishes;

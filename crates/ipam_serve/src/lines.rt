@@ -1,5 +1,5 @@
 //! A line is answered.
-ghost use Rattle.std.specs.Prelude.{◌≡◌, ℕ, Option, Some, None, Err, IfOk, OnOk, OnErr, IsTrue, option_map};
+ghost use Rattle.std.specs.Prelude.{◌≡◌, ◌⊎◌, ℕ, Option, Some, None, Err, IfOk, OnOk, OnErr, IsTrue, option_map};
 ghost use Rattle.std.specs.List.{All};
 ghost use Rattle.ipam_io.specs.Readings.{prepend_known_readings};
 ghost use Rattle.ipam_records.specs.Sound.{IsHandleId};
@@ -13,9 +13,9 @@ ghost use Rattle.ipam_session.specs.declared.wish.Wish.TheVariants as wish;
 ghost use Rattle.ipam_shared.specs.Passes.{runs_in};
 ghost use Rattle.ipam_serve.specs.Asking.{WasAdmitted};
 ghost use Rattle.ipam_serve.specs.Calls.{EachCall};
-ghost use Rattle.ipam_serve.specs.Faults.{Halts, OnWorn};
+ghost use Rattle.ipam_serve.specs.Faults.{Halts, OnMemory, OnWorn};
 ghost use Rattle.ipam_serve.specs.Keeping.{MakesCalls};
-ghost use Rattle.ipam_serve.specs.Lines.{BreaksOff, Replies, WearsOut, asked_by, is_collect, clock_reading, reply_ran, server_at, timed};
+ghost use Rattle.ipam_serve.specs.Lines.{BreaksOff, FoundNone, Replies, WearsOut, asked_by, is_collect, clock_reading, reply_ran, server_at, timed};
 ghost use Rattle.ipam_serve.specs.Outcomes.{Comes, ComesOfCall};
 ghost use Rattle.ipam_serve.specs.Runs.{IsAtRest};
 
@@ -26,13 +26,12 @@ use crate::patience::Patience;
 use crate::ran::{Broken, Ran};
 use crate::requests::{run_call, run_feed, run_request};
 use crate::turns::{look, routes_since};
+use crate::wishes::ReadsWishes;
 use cni_types::Version;
 use ipam_io::Clock;
 use ipam_model::{Answer, Request};
 use ipam_records::Key;
-use ipam_session::{
-    AskFault, CallBegun, Refusal, Reply, RowKind, Wish, begin_call, read_wish, tell_call,
-};
+use ipam_session::{CallBegun, Refusal, Reply, RowKind, Wish, begin_call, tell_call};
 use ipam_shared::{Keeper, Pass, Shared, SpentPass};
 use ipam_text::{Seq, Text};
 use std::alloc::{AllocError, Global};
@@ -40,10 +39,11 @@ use std::sync::Wait;
 
 /// Does what the line asks, in the pass's slot, and gives its reply. What is begun goes on to its
 /// answer, or until a collection waits. The line's bytes are let go before anything begins. On `Err` what
-/// was begun still runs.
-pub fn answer_line<R: Wait, D: Keeper, G: SessionGate, C: Clock, P: Patience>(
+/// was begun still runs. What reads the line is usually the allocator itself.
+pub fn answer_line<R: Wait, D: Keeper, G: SessionGate, C: Clock, P: Patience, T: ReadsWishes>(
     rt: &R,
     alloc: Global,
+    reads: &T,
     shared: &Shared<D>,
     opening: &Opening,
     pass: &mut Pass,
@@ -62,6 +62,12 @@ pub fn answer_line<R: Wait, D: Keeper, G: SessionGate, C: Clock, P: Patience>(
         (server_at pass.new (G.turns gate.new) (C.ahead clock.new))) }
     ensures rests { OnOk result (IsAtRest (runs_in pass.new)) }
     ensures worn { OnWorn result (WearsOut (asked_by line.items) pass.old pass.new) }
+    ensures memory { OnMemory result
+        (((server_at pass.new (G.turns gate.new) (C.ahead clock.new) ≡ server_at pass.old (G.turns gate.old) (C.ahead clock.old))
+        × T.wants reads.now)
+        ⊎ FoundNone (asked_by line.items)
+        (server_at pass.old (G.turns gate.old) (C.ahead clock.old))
+        (server_at pass.new (G.turns gate.new) (C.ahead clock.new))) }
     ensures opened { asked_by line.items ≡ Some Wish.Opened
         → IfOk result (λ reply. reply ≡ Reply.Opened opening.now) }
     ensures stops { Halts result (G.stops gate.old) (G.stops gate.new) }
@@ -69,30 +75,13 @@ pub fn answer_line<R: Wait, D: Keeper, G: SessionGate, C: Clock, P: Patience>(
     ensures admitted { EachCall (WasAdmitted G.admits) pass.old pass.new }
     ensures lines { G.lines gate.new ≡ G.lines gate.old }
 {
-    match wish_in(rt, alloc, opening, line) {
-        Ok(wish) => answer_wish(
+    match reads.wish_of(rt, opening, line) {
+        Ok(Some(wish)) => answer_wish(
             rt, alloc, shared, opening, pass, gate, clock, patience, wish,
         ),
-        Err(AskFault::Unreadable) => Ok(Reply::Refused(Refusal::Line)),
-        Err(AskFault::Memory) => Err(Broken::Memory),
+        Ok(None) => Ok(Reply::Refused(Refusal::Line)),
+        Err(_) => Err(Broken::Memory),
     }
-}
-
-/// What the line asks. Its bytes are let go.
-fn wish_in<R: Wait>(
-    rt: &R,
-    alloc: Global,
-    opening: &Opening,
-    line: Vec<u8>,
-) -> Result<Wish, AskFault>
-    ensures read { IfOk result (λ asked. asked_by line.items ≡ Some asked) }
-    ensures unreadable { result ≡ Err AskFault.Unreadable → asked_by line.items ≡ None }
-    ensures sound { IfOk result IsSoundWish }
-{
-    let turn = opening.turn(rt, line.len());
-    let asked = read_wish(alloc, line.as_slice());
-    turn.end();
-    asked
 }
 
 fn answer_wish<R: Wait, D: Keeper, G: SessionGate, C: Clock, P: Patience>(

@@ -8,7 +8,7 @@ ghost use Rattle.ipam_model.specs.SoundRequest.{IsSoundRequest};
 ghost use Rattle.ipam_shared.specs.Passes.{runs_in};
 ghost use Rattle.ipam_serve.specs.Asking.{WasAdmitted};
 ghost use Rattle.ipam_serve.specs.Calls.{EachCall};
-ghost use Rattle.ipam_serve.specs.Faults.{Halts, IfAnswered, IsWorn, OnWaits, OnWorn, answer_ran, spared_by};
+ghost use Rattle.ipam_serve.specs.Faults.{FoundFed, FoundOnWay, FoundRoom, Halts, IfAnswered, IsWorn, OnMemory, OnWaits, OnWorn, answer_ran, spared_by};
 ghost use Rattle.ipam_serve.specs.Gains.{request_running, is_early, is_waiting};
 ghost use Rattle.ipam_serve.specs.Keeping.{MakesCalls};
 ghost use Rattle.ipam_serve.specs.Lines.{IsUnanswered};
@@ -54,6 +54,7 @@ pub fn run_request<R: Wait, D: Keeper, G: SessionGate, P: Patience>(
     ensures waits { IfOk result (λ ran. OnWaits ran
         ((is_waiting (runs_in pass.new) ≡ true) × (request_running (runs_in pass.new) ≡ Some request.now))) }
     ensures worn { OnWorn result (IsWorn 0 pass.old pass.new) }
+    ensures memory { OnMemory result (FoundRoom pass.old pass.new) }
     ensures unanswered { OnWorn result (IsUnanswered pass.old pass.new) }
     ensures stops { Halts result (G.stops gate.old) (G.stops gate.new) }
     ensures keeper { MakesCalls D.rows D.given D.faults pass.old pass.new }
@@ -182,6 +183,7 @@ pub fn run_feed<R: Wait, D: Keeper, G: SessionGate, P: Patience>(
     ensures can_answer { (request : Asked) → request_running (runs_in pass.old) ≡ Some request
         → IfOk result (λ told. IfSome told (CanAnswer request)) }
     ensures worn { OnWorn result (IsWorn 0 pass.old pass.new) }
+    ensures memory { OnMemory result (FoundFed pass.old at pass.new) }
     ensures runs { OnWorn result (IsSome (runs_in pass.new)) }
     ensures stops { Halts result (G.stops gate.old) (G.stops gate.new) }
     ensures keeper { MakesCalls D.rows D.given D.faults pass.old pass.new }
@@ -226,6 +228,7 @@ pub fn run_call<R: Wait, D: Keeper, G: SessionGate, P: Patience>(
     ensures can_answer { IfOk result (CanAnswer request.now) }
     ensures idle { OnOk result (runs_in pass.new ≡ None) }
     ensures worn { OnWorn result (IsWorn (waits_of request.now) pass.old pass.new) }
+    ensures memory { OnMemory result (FoundOnWay request.now pass.old pass.new) }
     ensures unanswered { OnWorn result (IsUnanswered pass.old pass.new) }
     ensures stops { Halts result (G.stops gate.old) (G.stops gate.new) }
     ensures keeper { MakesCalls D.rows D.given D.faults pass.old pass.new }

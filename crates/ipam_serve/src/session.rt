@@ -132,7 +132,7 @@ fn exchange<R: Wait, D: Keeper, G: SessionGate, C: Clock, P: Patience, L: Link>(
     match read_line(pass, gate, link, lines) {
         Ok(line) => {
             let told = answer_line(
-                rt, alloc, shared, opening, pass, gate, clock, patience, line,
+                rt, alloc, &alloc, shared, opening, pass, gate, clock, patience, line,
             );
             match told {
                 Ok(reply) => settle_and_reply(rt, alloc, shared, pass, patience, link, reply),

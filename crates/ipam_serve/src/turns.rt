@@ -5,12 +5,12 @@ ghost use Rattle.ipam_records.specs.Sound.{IsHandleId};
 ghost use Rattle.ipam_model.specs.declared.entry.Entry.TheVariants as entry;
 ghost use Rattle.ipam_model.specs.SoundRequest.{IsSoundRequest};
 ghost use Rattle.ipam_shared.specs.Passes.{runs_in};
-ghost use Rattle.ipam_serve.specs.Faults.{IsWorn, OnHalted, OnWorn};
+ghost use Rattle.ipam_serve.specs.Faults.{FoundDue, FoundRoom, IsWorn, OnHalted, OnMemory, OnWorn};
 ghost use Rattle.ipam_serve.specs.Gains.{TookTurns, is_waiting};
 ghost use Rattle.ipam_serve.specs.Keeping.{MakesCalls};
 ghost use Rattle.ipam_model.specs.History.{store_at};
 ghost use Rattle.ipam_serve.specs.Lines.{since_in};
-ghost use Rattle.ipam_serve.specs.Turns.{Called, Fed, IsToldOf, TakesLook, TakesOne, answer_told};
+ghost use Rattle.ipam_serve.specs.Turns.{Called, Fed, IsInFeed, IsToldOf, TakesLook, TakesOne, answer_told};
 
 use crate::losses::Losses;
 use crate::ran::{Broken, Ran};
@@ -39,6 +39,7 @@ pub(crate) fn begin<R: Wait, D: Keeper>(
         (TookTurns pass.old (entry.Began pass.old.slot request.now ∷ []) 0 pass.new) }
     ensures not_begun { OnErr result (TookTurns pass.old [] 1 pass.new) }
     ensures worn { OnWorn result (IsWorn 0 pass.old pass.new) }
+    ensures memory { OnMemory result (FoundRoom pass.old pass.new) }
     ensures not_halted { OnHalted result ⊥ }
 {
     if pass.left() < 2 {
@@ -57,6 +58,7 @@ fn not_begun(fault: SharedFault<BeginFault>) -> Broken
     requires turn { fault ≢ SharedFault.SpentPass }
     requires idle { fault ≢ SharedFault.Inner BeginFault.SlotBusy }
     ensures worn { result ≡ Broken.Worn → fault ≡ SharedFault.Inner BeginFault.Worn }
+    ensures memory { result ≡ Broken.Memory → fault ≡ SharedFault.Inner BeginFault.Memory }
     ensures not_halted { result ≢ Broken.Halted }
 {
     match fault {
@@ -82,6 +84,7 @@ pub(crate) fn call<R: Wait, D: Keeper>(
     ensures called { IfOk result (λ ran. Called pass.old ran pass.new) }
     ensures not_called { OnErr result (TookTurns pass.old [] 1 pass.new) }
     ensures worn { OnWorn result (IsWorn 0 pass.old pass.new) }
+    ensures memory { OnMemory result (FoundRoom pass.old pass.new) }
     ensures not_halted { OnHalted result ⊥ }
     ensures keeper { MakesCalls D.rows D.given D.faults pass.old pass.new }
 {
@@ -112,6 +115,7 @@ fn not_called(fault: SharedFault<PrepareFault>) -> Result<Option<Ran>, Broken>
     ensures waits { IfOk result
         (λ ran. (ran ≡ Some Ran.Waits) × (fault ≡ SharedFault.Inner PrepareFault.Waiting)) }
     ensures worn { OnWorn result (fault ≡ SharedFault.Inner PrepareFault.Worn) }
+    ensures memory { OnMemory result (fault ≡ SharedFault.Inner PrepareFault.Memory) }
     ensures not_halted { OnHalted result ⊥ }
 {
     match fault {
@@ -148,6 +152,7 @@ pub(crate) fn feed<R: Wait, D: Keeper>(
     ensures fed { IfOk result (λ feeding. Fed pass.old live.now at feeding pass.new) }
     ensures not_fed { OnErr result (TookTurns pass.old [] 1 pass.new) }
     ensures worn { OnWorn result (IsWorn 0 pass.old pass.new) }
+    ensures memory { OnMemory result (FoundDue pass.old at pass.new) }
     ensures not_halted { OnHalted result ⊥ }
 {
     if pass.left() < 2 {
@@ -168,6 +173,7 @@ fn not_fed(fault: SharedFault<FeedFault>) -> Result<Feeding, Broken>
     ensures too_soon { IfOk result (λ feeding. (feeding ≡ Feeding.TooSoon)
         × (since grace : ℕ) × (fault ≡ SharedFault.Inner (FeedFault.TooSoon since grace))) }
     ensures worn { OnWorn result (fault ≡ SharedFault.Inner FeedFault.Worn) }
+    ensures memory { OnMemory result (fault ≡ SharedFault.Inner FeedFault.Memory) }
     ensures not_halted { OnHalted result ⊥ }
 {
     match fault {
@@ -191,6 +197,7 @@ pub(crate) fn routes_since<R: Wait, D: Keeper>(
     requires lock { pass.old.lock ≡ shared.now }
     ensures turn { TakesOne result pass.old pass.new }
     ensures told { IfOk result (λ since. since ≡ since_in pass.new revision) }
+    ensures memory { OnMemory result ((pass.new.left < pass.old.left) × IsInFeed pass.new revision) }
 {
     if pass.left() < 2 {
         return Err(Broken::Worn);
@@ -205,6 +212,7 @@ fn not_told(fault: SharedFault<SinceFault>) -> Result<Since, Broken>
     requires { fault ≢ SharedFault.SpentPass }
     ensures told { IfOk result (IsToldOf fault) }
     ensures memory { OnErr result (result ≡ Err Broken.Memory) }
+    ensures want_of_memory { OnErr result (fault ≡ SharedFault.Inner SinceFault.Memory) }
 {
     match fault {
         SharedFault::SpentPass => unreachable!(),

@@ -188,7 +188,7 @@ done-of slot store moment (Asks label first next) own c asks e =
       name = refl;
     }))
 
-after-store : (base : Base) (history : List Entry) (c : Called) → store_at base (entry.Called c ∷ history) ≡ store_after c (store_at base history)
+pub after-store : (base : Base) (history : List Entry) (c : Called) → store_at base (entry.Called c ∷ history) ≡ store_after c (store_at base history)
 unfolding cluster_at after
 after-store base history c = refl
 

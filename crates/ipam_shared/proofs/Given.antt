@@ -6,7 +6,7 @@ use Rattle.ipam_records.specs.Datastore.{Datastore}
 use Rattle.ipam_records.specs.Sound.{IsDatastore}
 use Rattle.ipam_keeper.specs.declared.keeper.KeepFault.{KeepFault}
 use Rattle.ipam_keeper.specs.declared.keeper.KeepFault.TheVariants.{Failed, Memory}
-use Rattle.ipam_keeper.specs.Keeping.{IsOldOrNew, OnFailed, OnMemory, SettlesOrNot}
+use Rattle.ipam_keeper.specs.Keeping.{IsOldOrNew, OnFailed, OnMemory, SettlesOrNot, UnlessFailed}
 use Rattle.ipam_shared.specs.declared.write.RowWrite.{RowWrite}
 use Rattle.ipam_shared.specs.Giving.{SettlesGiven, StayKept, WereGiven, known_after, known_written}
 use Rattle.ipam_shared.specs.Rows.{AreKept, AreTextsOf, AreToldKept, key_written, row_back, rows_after}
@@ -82,6 +82,9 @@ failed-of {P} e is h = subst (λ (x : KeepFault). OnFailed {T = Unit {0}} (Err x
 
 pub memory-of : {P : Type 0} (e : KeepFault) → e ≡ Memory → OnMemory {T = Unit {0}} (Err e) P → P
 memory-of {P} e is h = subst (λ (x : KeepFault). OnMemory {T = Unit {0}} (Err x) P) is h
+
+pub unfailed-of : {P : Type 0} (e : KeepFault) → e ≡ Memory → UnlessFailed {T = Unit {0}} (Err e) P → P
+unfailed-of {P} e is h = subst (λ (x : KeepFault). UnlessFailed {T = Unit {0}} (Err x) P) is h
 
 -- what follows of a call that failed
 failed-then : {P Q : Type 0} (e : KeepFault) → OnFailed {T = Unit {0}} (Err e) P → (P → Q) → OnFailed {T = Unit {0}} (Err e) Q

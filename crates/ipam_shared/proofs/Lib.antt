@@ -31,3 +31,5 @@ pub mod StepLemmas
 pub mod Calls
 pub mod Courses
 pub mod Running
+pub mod Instead
+pub mod OnceSure

@@ -251,6 +251,43 @@ row_back-is key store = back-is key (row_of_read_key (key_read key) store) (λ r
     by None is row e = absurd (cc e)
     by (Some named) is row e = ap key_bytes (row_key-row_of named store.rows row e) ∙ (IsTextOf-key_read key named is).spelled
 
+-- what stands at each key once a write is done
+found-after : (store : Datastore) (done : Write) → IsNamed done → (key : List ℕ) → text_found key (written store done) ≡ cond (texts_equal (key_written (texts_written done)) key) (row_left (texts_written done)) (text_found key store)
+unfolding row_left
+found-after store (write.Put revision new) sound key = put-found store revision new sound key
+found-after store (write.Remove revision gone) sound key = gone-found store revision gone sound key
+
+-- the rows with a write done, once the row before is put back, stand as those before it
+pub stand-before : (rows : List RowText) (store : Datastore) (done : Write) → IsNamed done → StandAt rows (written store done) → StandAt (rows_after (row_back (key_written (texts_written done)) store) rows) store
+stand-before rows store done named h = record { ascend = ascend-after back rows h.ascend; at = at }
+  where
+    key : List ℕ
+    key = key_written (texts_written done)
+
+    back : RowWrite
+    back = row_back key store
+
+    is : (key_written back ≡ key) × (row_left back ≡ text_found key store)
+    is = row_back-is key store
+
+    by : (other : List ℕ) (b : Bool) → texts_equal key other ≡ b → cond b (text_found key store) (row_of other rows) ≡ text_found other store
+    by other true e = ap (λ k. text_found k store) (equal-texts key other e)
+    by other false e = h.at other ∙ (found-after store done named other ∙ ap (λ b. cond b (row_left (texts_written done)) (text_found other store)) e)
+
+    at : (other : List ℕ) → row_of other (rows_after back rows) ≡ text_found other store
+    at other =
+        after-at back rows other
+        ∙ (ap (λ k. cond (texts_equal k other) (row_left back) (row_of other rows)) is.0
+        ∙ (ap (λ o. cond (texts_equal key other) o (row_of other rows)) is.1 ∙ by other (texts_equal key other) refl))
+
+-- so the write makes them of those
+pub written-after : (rows : List RowText) (store : Datastore) (done : Write) → IsNamed done → StandAt rows (written store done)
+    → rows ≡ rows_after (texts_written done) (rows_after (row_back (key_written (texts_written done)) store) rows)
+written-after rows store done named h =
+    let before = rows_after (row_back (key_written (texts_written done)) store) rows in
+    let again = stand-after before store done named (stand-before rows store done named h) in
+    same_rows rows (rows_after (texts_written done) before) h.ascend again.ascend (λ key. h.at key ∙ sym (again.at key))
+
 -- the datastore's rows with another one at a key are its own again once that is put back
 pub back-again : (rows others : List RowText) (store : Datastore) (key : List ℕ) → StandAt rows store → Ascend others
     → ((other : List ℕ) → texts_equal key other ≡ false → row_of other others ≡ row_of other rows) → rows_after (row_back key store) others ≡ rows

@@ -18,3 +18,4 @@ pub mod KeptTurning
 pub mod Solo
 pub mod Steps
 pub mod Courses
+pub mod Durable

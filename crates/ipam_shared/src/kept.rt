@@ -83,6 +83,7 @@ impl<D: Keeper> Kept<D> {
         ensures opened { IfOk result (IsOpened D.rows D.faults D.name keeper first) }
         ensures fed { IfOk result (λ kept. FedFor D.rows kept (record { store = kept.cluster.store.store; first = first }) []) }
         ensures sure { IfOk result (λ kept. SureFor D.settled kept (record { store = kept.cluster.store.store; first = first }) []) }
+        ensures settled { IfOk result (λ kept. D.settled kept.keeper ≡ D.rows kept.keeper) }
         ensures refused { IfErr result (IsNotOpened D.rows D.faults D.name keeper) }
         ensures want_of_memory_has_its_cause { IfErr result (λ answer. answer.1 ≡ KeptFault.Memory → T.wants alloc) }
     {

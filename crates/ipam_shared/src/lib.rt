@@ -1,5 +1,6 @@
 //! A cluster whose rows a keeper has: each write goes to the keeper before it is done. It has the routes
-//! that follow from them. And one request by itself, in a kept cluster in which nothing runs.
+//! that follow from them. And one request by itself, in a kept cluster in which nothing runs, whose answer
+//! may wait until all rows are sure.
 //!
 //! And a kept cluster under a lock. Whoever has a pass takes turns at it, in a slot of its own, and knows
 //! the history up to its last turn.
@@ -15,6 +16,7 @@ mod broken;
 mod crossing;
 mod deed;
 mod deeds;
+mod durable;
 mod faults;
 mod feed;
 mod giving;
@@ -34,6 +36,7 @@ mod write;
 
 pub use broken::broken_line;
 pub use crossing::{may_be_shared, memory_may_cross};
+pub use durable::run_durable;
 pub use faults::{SharedFault, SpentPass};
 pub use ipam_cluster::{BeginFault, Cluster, FeedFault, PrepareFault};
 pub use ipam_keeper::{KeepFault, Keeper};

@@ -1,5 +1,7 @@
 //! The steps of a request that runs by itself in slot 0, from its beginning.
-ghost use Rattle.std.specs.Prelude.{◌≡◌, ◌-◌, ◌^◌, ◌⊎◌, IfOk, OnOk, OnErr};
+ghost use Rattle.std.specs.Prelude.{◌≡◌, ◌-◌, ◌^◌, ◌⊎◌, Err, IfOk, OnOk, OnErr};
+ghost use Rattle.ipam_io.specs.Counts.{Rose};
+ghost use Rattle.ipam_keeper.specs.Keeping.{OnFailed, UnlessFailed};
 ghost use Rattle.ipam_model.specs.declared.entry.Entry.TheVariants as entry;
 ghost use Rattle.ipam_model.specs.declared.entry.SlotState.TheVariants as state;
 ghost use Rattle.ipam_model.specs.SoundRequest.{IsSoundRequest};
@@ -11,12 +13,12 @@ ghost use Rattle.ipam_shared.specs.Steps.{Begins, CameToEnd, CountsOne, IsDoneCa
 use crate::going::Going;
 use crate::kept::Kept;
 use ipam_cluster::{BeginFault, FeedFault, PrepareFault};
-use ipam_keeper::Keeper;
+use ipam_keeper::{KeepFault, Keeper};
 use ipam_model::{Answer, Entry, Request, SlotState};
 use std::alloc::{AllocError, Global};
 
-/// What takes the memory for the steps of a request that runs by itself. What is generic over it knows nothing
-/// of it, and so can't state by itself that it found none.
+/// What takes the memory for the steps of a request that runs by itself, and for making sure of its rows. What is
+/// generic over it knows nothing of it, and so can't state by itself that it found none.
 pub trait MakesSteps {
     /// It found no memory, or there are 2^62 entries.
     ghost wants: { Self → Type 0 };
@@ -45,6 +47,17 @@ pub trait MakesSteps {
         ensures no_step { OnErr result (IsNoStep D.faults kept.old kept.new) }
         ensures same { D.name kept.new.keeper ≡ D.name kept.old.keeper }
         ensures wants { OnErr result (wants self.now) };
+
+    /// Has the keeper make sure of all rows. The cluster stays as it is.
+    fn settle<D: Keeper>(&self, kept: &mut Kept<D>) -> Result<(), KeepFault>
+        ensures done { OnOk result (D.settled kept.new.keeper ≡ D.rows kept.new.keeper) }
+        ensures rest { kept.new ≡ record kept.old { keeper = kept.new.keeper; settled = kept.new.settled } }
+        ensures rows { D.rows kept.new.keeper ≡ D.rows kept.old.keeper }
+        ensures unchanged { Stays D.rows kept.old kept.new }
+        ensures fault { OnFailed result (Rose (D.faults kept.old.keeper) (D.faults kept.new.keeper)) }
+        ensures no_fault { UnlessFailed result (D.faults kept.new.keeper ≡ D.faults kept.old.keeper) }
+        ensures same { D.name kept.new.keeper ≡ D.name kept.old.keeper }
+        ensures wants { result ≡ Err KeepFault.Memory → wants self.now };
 }
 
 impl MakesSteps for Global {
@@ -74,6 +87,10 @@ impl MakesSteps for Global {
                 Ok(None)
             }
         }
+    }
+
+    fn settle<D: Keeper>(&self, kept: &mut Kept<D>) -> Result<(), KeepFault> {
+        kept.settle()
     }
 }
 

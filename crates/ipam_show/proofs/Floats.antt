@@ -18,11 +18,11 @@ pub pools_without : (counts : List BlockCount) (pools : List Pool) → has_float
 unfolding pools_shown_data
 pools_without counts pools = rw (items_without (pool_shown_data counts) (pool_without counts) pools) refl
 
-text_without : (text : Option (List ℕ)) → has_float (text_or_null text) ≡ false
+pub text_without : (text : Option (List ℕ)) → has_float (text_or_null text) ≡ false
 text_without None = refl
 text_without (Some text) = refl
 
-use_without : (u : InUse) → has_float (use_data u) ≡ false
+pub use_without : (u : InUse) → has_float (use_data u) ≡ false
 unfolding use_data
 use_without u =
     let node = text_without u.block_node in

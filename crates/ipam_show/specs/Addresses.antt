@@ -8,7 +8,7 @@ use Rattle.ipam_json.specs.Built.{array_of, object_of}
 use Rattle.ipam_records.specs.Datastore.{Datastore}
 use Rattle.ipam_words.specs.declared.view.Form.{Form}
 use Rattle.ipam_words.specs.declared.view.Form.TheVariants.{Table, Json}
-use Rattle.ipam_words.specs.Views.{AskedChoice, Borrowed}
+use Rattle.ipam_words.specs.Views.{AskedChoice, Borrowed, BorrowedBy}
 use Rattle.ipam_show.specs.Columns.{Cells, table_text}
 use Rattle.ipam_show.specs.declared.in_use.InUse.{InUse}
 use Rattle.ipam_show.specs.InUse.{uses_kept, value_in_use}
@@ -43,6 +43,7 @@ borrowed_row u =
 -- of borrowed addresses the block and its node are shown
 abbrev pub columns_of : AskedChoice → ℕ
 columns_of Borrowed = 5
+columns_of (BorrowedBy node) = 5
 columns_of _ = 6
 
 abbrev pub borrowed_head : Cells
@@ -54,10 +55,12 @@ plain_head =
 
 abbrev pub use_head : AskedChoice → Cells
 use_head Borrowed = borrowed_head
+use_head (BorrowedBy node) = borrowed_head
 use_head _ = plain_head
 
 abbrev pub use_row : AskedChoice → InUse → Cells
 use_row Borrowed u = borrowed_row u
+use_row (BorrowedBy node) u = borrowed_row u
 use_row _ u = plain_row u
 
 abbrev pub use_rows : AskedChoice → List InUse → List Cells

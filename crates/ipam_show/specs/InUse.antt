@@ -1,5 +1,5 @@
 -- The addresses in use.
-use Rattle.std.specs.Prelude.{ℕ, Bool, true, List, [], Option, Some, None, codes, if◌then◌else◌}
+use Rattle.std.specs.Prelude.{ℕ, Bool, true, ◌&&◌, List, [], Option, Some, None, bytes_eq, codes, if◌then◌else◌}
 use Rattle.std.specs.List.{filter_map, flat_map}
 use Rattle.ipam_addr.specs.Holding.{holds_address}
 use Rattle.ipam_addr.specs.Shape.{AddrValue}
@@ -12,18 +12,23 @@ use Rattle.ipam_records.specs.BlockLists.{is_node}
 use Rattle.ipam_records.specs.Datastore.{Datastore}
 use Rattle.ipam_model.specs.Pairs.{value_of}
 use Rattle.ipam_model.specs.Reads.{StoredRecord}
-use Rattle.ipam_words.specs.Views.{AskedChoice, All, Within, OfNode, Borrowed}
+use Rattle.ipam_words.specs.Views.{AskedChoice, All, Within, OfNode, OfHandle, Borrowed, BorrowedBy}
 use Rattle.ipam_show.specs.declared.in_use.InUse.{InUse}
 use Rattle.ipam_show.specs.Counts.{borrows}
 use Rattle.ipam_show.specs.Kept.{blocks_kept}
 
 -- ---- which are shown
 
+abbrev pub is_recorded_with : (node : List ℕ) → Allocation → Bool
+is_recorded_with node a = is_node node (value_of (codes "node") a.attributes.secondary)
+
 abbrev pub is_chosen : AskedChoice → AddrValue → BlockValue → Allocation → Bool
 is_chosen All address b a = true
 is_chosen (Within cidr) address b a = holds_address cidr address
-is_chosen (OfNode node) address b a = is_node node (value_of (codes "node") a.attributes.secondary)
+is_chosen (OfNode node) address b a = is_recorded_with node a
+is_chosen (OfHandle handle) address b a = bytes_eq a.attributes.handle handle
 is_chosen Borrowed address b a = borrows b.node a
+is_chosen (BorrowedBy node) address b a = is_recorded_with node a && borrows b.node a
 
 -- the address of the allocation, where it is chosen
 abbrev pub use_at : AskedChoice → AddrValue → BlockValue → Allocation → Option InUse

@@ -10,17 +10,20 @@ use Rattle.ipam_records.specs.Datastore.{Datastore}
 use Rattle.ipam_show.specs.declared.counting.BlockCount.{BlockCount}
 use Rattle.ipam_show.specs.Counts.{counts_kept}
 use Rattle.ipam_show.specs.Kept.{pools_kept}
+use Rattle.ipam_show.specs.Left.{blocks_left, use_word}
 use Rattle.ipam_show.specs.Scopes.{block_sum, free_sum, is_any, is_in_pool, used_sum}
 
--- `addresses` is a text, since no number of JSON's readers holds 2^128
+-- `addresses` and `blocksLeft` are texts, since no number of JSON's readers holds 2^128
 unfoldable pub pool_shown_data : List BlockCount → Pool → Data
 pool_shown_data counts pool =
     object_of
     ((codes "addresses", string (decimal (cidr_size pool.cidr)))
     ∷ (codes "blocks", whole_data (block_sum (is_in_pool pool.cidr) counts))
+    ∷ (codes "blocksLeft", string (decimal (blocks_left counts pool)))
     ∷ (codes "cidr", string (cidr_text_of pool.cidr))
     ∷ (codes "freeInBlocks", whole_data (free_sum (is_in_pool pool.cidr) counts))
     ∷ (codes "name", string pool.name)
+    ∷ (codes "use", string (use_word pool))
     ∷ (codes "used", whole_data (used_sum (is_in_pool pool.cidr) counts))
     ∷ [])
 

@@ -7,15 +7,18 @@ ghost use Rattle.serde_json.specs.Written.{compact_text};
 ghost use Rattle.ipam_json.specs.Built.{array_of};
 ghost use Rattle.ipam_model.specs.Pairs.{value_of};
 ghost use Rattle.ipam_show.specs.Addresses.{text_or_null, use_data, uses_data, uses_json};
-ghost use Rattle.ipam_show.specs.InUse.{value_in_use};
+ghost use Rattle.ipam_words.specs.Views.{chosen_by};
+ghost use Rattle.ipam_show.specs.InUse.{uses_kept, value_in_use};
 
 use crate::addresses_shown::address_cell;
 use crate::cells::cidr_cell;
 use crate::counting::recorded;
-use crate::in_use::InUse;
+use crate::in_use::{InUse, uses_kept};
 use crate::json_shown::{put_cell, put_text};
 use ipam_block::Attributes;
+use ipam_store::Store;
 use ipam_text::Text;
+use ipam_words::Choice;
 use serde_json::{Map, Value, put};
 use std::alloc::{AllocError, Global};
 
@@ -44,6 +47,18 @@ fn uses_value(alloc: Global, uses: &[InUse]) -> Result<Value, AllocError>
     let list = list_value(alloc, uses)?;
     put(&mut members, alloc, "addresses", list)?;
     Ok(Value::Object(members))
+}
+
+/// The addresses in use that are chosen as a JSON array of objects, in order of address.
+pub fn addresses_value(
+    alloc: Global,
+    store: &Store,
+    chosen: &Choice<'_>,
+) -> Result<Value, AllocError>
+    ensures { IfOk result (λ json. view json ≡ array_of (map use_data (uses_kept (chosen_by chosen.now) store.now.store))) }
+{
+    let uses = uses_kept(alloc, store, chosen)?;
+    list_value(alloc, &uses)
 }
 
 fn list_value(alloc: Global, uses: &[InUse]) -> Result<Value, AllocError>

@@ -49,7 +49,7 @@ fn columns_of(chosen: &Choice<'_>) -> usize
     ensures { result ≡ columns_of (chosen_by chosen.now) }
 {
     match chosen {
-        Choice::Borrowed => 5,
+        Choice::Borrowed | Choice::BorrowedBy(_) => 5,
         _ => 6,
     }
 }
@@ -73,7 +73,7 @@ fn add_head(alloc: Global, rows: &mut Vec<Seq<Text>>, chosen: &Choice<'_>) -> Re
     ensures { OnOk result (rows.new.items ≡ rows.old.items ++ use_head (chosen_by chosen.now) ∷ []) }
 {
     match chosen {
-        Choice::Borrowed => add_borrowed_head(alloc, rows),
+        Choice::Borrowed | Choice::BorrowedBy(_) => add_borrowed_head(alloc, rows),
         _ => add_plain_head(alloc, rows),
     }
 }
@@ -101,7 +101,7 @@ fn add_use_row(
     ensures { OnOk result (rows.new.items ≡ rows.old.items ++ use_row (chosen_by chosen.now) used.now ∷ []) }
 {
     match chosen {
-        Choice::Borrowed => add_borrowed_row(alloc, rows, used),
+        Choice::Borrowed | Choice::BorrowedBy(_) => add_borrowed_row(alloc, rows, used),
         _ => add_plain_row(alloc, rows, used),
     }
 }

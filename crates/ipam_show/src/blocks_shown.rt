@@ -67,8 +67,12 @@ fn add_block_row(
     add_row(alloc, rows, &words)
 }
 
-/// The state of the affinity of the block's node to it.
-fn state_of(alloc: Global, store: &Store, count: &BlockCount) -> Result<Option<State>, AllocError>
+/// The state of the affinity of the block's node to it, where there is one.
+pub fn state_of(
+    alloc: Global,
+    store: &Store,
+    count: &BlockCount,
+) -> Result<Option<State>, AllocError>
     ensures { IfOk result (λ state. state ≡ block_state store.now.store count.now) }
 {
     match &count.node {

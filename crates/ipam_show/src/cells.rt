@@ -11,11 +11,7 @@ use itoa::Buffer;
 use std::alloc::{AllocError, Global};
 
 /// Adds the row of these words.
-pub(crate) fn add_row(
-    alloc: Global,
-    rows: &mut Vec<Seq<Text>>,
-    words: &[&str],
-) -> Result<(), AllocError>
+pub fn add_row(alloc: Global, rows: &mut Vec<Seq<Text>>, words: &[&str]) -> Result<(), AllocError>
     ensures { OnOk result (rows.new.items ≡ rows.old.items ++ map (λ word. word.now) words.now ∷ []) }
 {
     rows.push(words_row(alloc, words)?)?;
@@ -32,7 +28,8 @@ fn words_row(alloc: Global, words: &[&str]) -> Result<Seq<Text>, AllocError>
     Ok(Seq::of(cells))
 }
 
-pub(crate) fn cidr_cell(alloc: Global, cidr: Cidr) -> Result<Text, AllocError>
+/// The CIDR, as `push_cidr` writes it.
+pub fn cidr_cell(alloc: Global, cidr: Cidr) -> Result<Text, AllocError>
     ensures { IfOk result (λ text. text ≡ cidr_text_of cidr) }
 {
     let mut text = String::new(alloc);
@@ -49,7 +46,7 @@ fn addresses_of(cidr: Cidr) -> Option<u128>
 }
 
 /// How many addresses the CIDR has, in decimal.
-pub(crate) fn addresses_cell(alloc: Global, cidr: Cidr) -> Result<Text, AllocError>
+pub fn addresses_cell(alloc: Global, cidr: Cidr) -> Result<Text, AllocError>
     ensures { IfOk result (λ text. text ≡ decimal (cidr_size cidr)) }
 {
     match addresses_of(cidr) {
@@ -58,7 +55,8 @@ pub(crate) fn addresses_cell(alloc: Global, cidr: Cidr) -> Result<Text, AllocErr
     }
 }
 
-fn wide_cell(alloc: Global, number: u128) -> Result<Text, AllocError>
+/// The number in decimal.
+pub(crate) fn wide_cell(alloc: Global, number: u128) -> Result<Text, AllocError>
     ensures { IfOk result (λ text. text ≡ decimal number) }
 {
     let mut buffer = Buffer::new();
@@ -66,7 +64,7 @@ fn wide_cell(alloc: Global, number: u128) -> Result<Text, AllocError>
 }
 
 /// The number in decimal, with a 6 after it.
-fn cell_before_six(alloc: Global, number: u128) -> Result<Text, AllocError>
+pub(crate) fn cell_before_six(alloc: Global, number: u128) -> Result<Text, AllocError>
     ensures { IfOk result (λ text. text ≡ decimal number ++ codes "6") }
 {
     Ok(Text::of(format!(in alloc; "{number}6")?))
@@ -101,7 +99,7 @@ pub(crate) fn node_word(node: &Option<Text>) -> &str
 }
 
 /// The state's name, or `-`.
-pub(crate) fn state_word(state: &Option<State>) -> &str
+pub fn state_word(state: &Option<State>) -> &str
     ensures { result.now ≡ state_word state.now }
 {
     match state {

@@ -18,21 +18,21 @@ use ipam_text::Text;
 use std::alloc::{AllocError, Global};
 
 /// One block: where it is, and how many of its addresses are used, free and borrowed.
-pub(crate) struct BlockCount {
+pub struct BlockCount {
     /// The addresses of the block.
-    pub(crate) cidr: Cidr,
+    pub cidr: Cidr,
     /// The node that it is affine to, if any.
-    pub(crate) node: Option<Text>,
+    pub node: Option<Text>,
     /// How many addresses it has, at most 4,096.
-    pub(crate) size: u16,
+    pub size: u16,
     /// How many of them are assigned.
-    pub(crate) used: u16,
+    pub used: u16,
     /// How many of them could still be given: neither assigned nor reserved.
-    pub(crate) free: u16,
+    pub free: u16,
     /// How many of those assigned are recorded with a node.
-    pub(crate) told: u16,
+    pub told: u16,
     /// How many of those assigned are recorded with a node that is not the block's.
-    pub(crate) borrowed: u16,
+    pub borrowed: u16,
 }
 
 impl Drop for BlockCount {
@@ -50,7 +50,7 @@ impl Drop for BlockCount {
 }
 
 /// Each block, counted, by family, base and prefix.
-pub(crate) fn counts_kept(alloc: Global, store: &Store) -> Result<Vec<BlockCount>, AllocError>
+pub fn counts_kept(alloc: Global, store: &Store) -> Result<Vec<BlockCount>, AllocError>
     requires few { length (blocks_kept store.now.store) ≤ most_blocks }
     ensures counts { IfOk result (λ counts. counts.items ≡ counts_kept store.now.store) }
     ensures few { IfOk result (λ counts. length counts.items < 2 ^ 32) }

@@ -2,7 +2,7 @@
 ghost use Rattle.std.specs.Prelude.{◌≡◌, ◌++◌, IfOk, OnOk};
 ghost use Rattle.ipam_records.specs.Pages.{rows_of_pages};
 ghost use Rattle.ipam_words.specs.Views.{chosen_by};
-ghost use Rattle.ipam_show.specs.InUse.{is_chosen, use_at, uses_in, uses_kept, uses_of_block, uses_of_record};
+ghost use Rattle.ipam_show.specs.InUse.{is_chosen, is_recorded_with, use_at, uses_in, uses_kept, uses_of_block, uses_of_record};
 
 use crate::counting::{borrows, copied_node, recorded};
 use crate::keeping::block_pages;
@@ -136,7 +136,17 @@ fn is_chosen(address: Addr, block: &Block, allocation: &Allocation, chosen: &Cho
     match chosen {
         Choice::All => true,
         Choice::Within(cidr) => cidr.contains(address),
-        Choice::OfNode(node) => recorded(allocation.attributes.get(), "node") == Some(*node),
+        Choice::OfNode(node) => is_recorded_with(node, allocation),
+        Choice::OfHandle(handle) => allocation.attributes.get().handle.as_str() == *handle,
         Choice::Borrowed => borrows(block, allocation),
+        Choice::BorrowedBy(node) => {
+            is_recorded_with(node, allocation) && borrows(block, allocation)
+        }
     }
+}
+
+fn is_recorded_with(node: &str, allocation: &Allocation) -> bool
+    ensures { result ≡ is_recorded_with node.now allocation.now }
+{
+    recorded(allocation.attributes.get(), "node") == Some(node)
 }

@@ -1,5 +1,5 @@
 //! `show --json`: the pools are shown to a program.
-ghost use Rattle.std.specs.Prelude.{◌≡◌, ◌<◌, ◌≤◌, ◌^◌, codes, decimal, length, map, IfOk, OnOk, string_bytes};
+ghost use Rattle.std.specs.Prelude.{◌≡◌, ◌<◌, ◌≤◌, ◌^◌, All, codes, decimal, length, map, IfOk, OnOk, string_bytes};
 ghost use Rattle.serde_json.specs.Data.{no_members, put, string};
 ghost use Rattle.serde_json.specs.View.{members_view, view};
 ghost use Rattle.serde_json.specs.Written.{compact_text};
@@ -9,11 +9,13 @@ ghost use Rattle.ipam_json.specs.Built.{array_of, whole_data};
 ghost use Rattle.ipam_records.specs.Datastore.{most_blocks};
 ghost use Rattle.ipam_show.specs.Kept.{blocks_kept};
 ghost use Rattle.ipam_show.specs.Scopes.{block_sum, free_sum, is_within, used_sum};
+ghost use Rattle.ipam_show.specs.Left.{IsOfSlots};
 ghost use Rattle.ipam_show.specs.Json.{json_text, pool_shown_data, pools_shown_data};
 
 use crate::cells::{addresses_cell, cidr_cell};
 use crate::counting::{BlockCount, counts_kept};
 use crate::keeping::pools_kept;
+use crate::left::{left_cell, use_word};
 use crate::sums::{Amount, Scope, amount_sum, block_sum};
 use ipam_pool::Pool;
 use ipam_store::Store;
@@ -34,7 +36,8 @@ pub fn show_json(alloc: Global, store: &Store) -> Result<String, AllocError>
 }
 
 fn pools_string(alloc: Global, counts: &[BlockCount], pools: &[Pool]) -> Result<String, AllocError>
-    requires { length counts.now < 2 ^ 32 }
+    requires few { length counts.now < 2 ^ 32 }
+    requires slots { All IsOfSlots pools.now }
     ensures { IfOk result (λ text. string_bytes text ≡ compact_text (pools_shown_data counts.now pools.now)) }
 {
     let json = pools_value(alloc, counts, pools)?;
@@ -43,7 +46,8 @@ fn pools_string(alloc: Global, counts: &[BlockCount], pools: &[Pool]) -> Result<
 
 #[tactic(auto, unfolding(crate::specs::Json::pools_shown_data))]
 fn pools_value(alloc: Global, counts: &[BlockCount], pools: &[Pool]) -> Result<Value, AllocError>
-    requires { length counts.now < 2 ^ 32 }
+    requires few { length counts.now < 2 ^ 32 }
+    requires slots { All IsOfSlots pools.now }
     ensures { IfOk result (λ json. view json ≡ pools_shown_data counts.now pools.now) }
 {
     let mut members = Map::new(alloc);
@@ -54,7 +58,8 @@ fn pools_value(alloc: Global, counts: &[BlockCount], pools: &[Pool]) -> Result<V
 }
 
 fn list_value(alloc: Global, counts: &[BlockCount], pools: &[Pool]) -> Result<Value, AllocError>
-    requires { length counts.now < 2 ^ 32 }
+    requires few { length counts.now < 2 ^ 32 }
+    requires slots { All IsOfSlots pools.now }
     ensures { IfOk result (λ json. view json ≡ array_of (map (pool_shown_data counts.now) pools.now)) }
 {
     let mut list = Vec::new(alloc);
@@ -66,11 +71,19 @@ fn list_value(alloc: Global, counts: &[BlockCount], pools: &[Pool]) -> Result<Va
 
 #[tactic(auto, unfolding(crate::specs::Json::pool_shown_data))]
 fn pool_value(alloc: Global, counts: &[BlockCount], pool: &Pool) -> Result<Value, AllocError>
-    requires { length counts.now < 2 ^ 32 }
+    requires few { length counts.now < 2 ^ 32 }
+    requires slots { IsOfSlots pool.now }
     ensures { IfOk result (λ json. view json ≡ pool_shown_data counts.now pool.now) }
 {
     let mut members = pool_members(alloc, pool)?;
     put_sums(alloc, &mut members, &Scope::Pool(pool.cidr), counts)?;
+    put_text(alloc, &mut members, "use", use_word(pool))?;
+    put_cell(
+        alloc,
+        &mut members,
+        "blocksLeft",
+        left_cell(alloc, counts, pool)?,
+    )?;
     Ok(Value::Object(members))
 }
 
@@ -115,7 +128,7 @@ fn put_sums(
 }
 
 /// Puts a member whose value is a text.
-pub(crate) fn put_text(
+pub fn put_text(
     alloc: Global,
     members: &mut Map<String, Value>,
     name: &str,
@@ -129,7 +142,7 @@ pub(crate) fn put_text(
 }
 
 /// Puts a member whose value is the text of a cell.
-pub(crate) fn put_cell(
+pub fn put_cell(
     alloc: Global,
     members: &mut Map<String, Value>,
     name: &str,

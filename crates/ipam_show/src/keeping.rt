@@ -1,6 +1,7 @@
 //! What a datastore keeps, as a request reads it.
-ghost use Rattle.std.specs.Prelude.{◌≡◌, IfOk};
+ghost use Rattle.std.specs.Prelude.{◌≡◌, All, IfOk};
 ghost use Rattle.ipam_records.specs.Pages.{rows_of_pages};
+ghost use Rattle.ipam_show.specs.Left.{IsOfSlots};
 ghost use Rattle.ipam_show.specs.Kept.{blocks_kept, pools_kept, reservations_kept, state_kept};
 
 use ipam_addr::Cidr;
@@ -12,8 +13,9 @@ use ipam_text::Text;
 use std::alloc::{AllocError, Global};
 
 /// The pools. None where their row is missing.
-pub(crate) fn pools_kept(store: &Store) -> &[Pool]
-    ensures { result.now ≡ pools_kept store.now.store }
+pub fn pools_kept(store: &Store) -> &[Pool]
+    ensures pools { result.now ≡ pools_kept store.now.store }
+    ensures slots { All IsOfSlots result.now }
 {
     match store.reply(&Call::Get(Key::Pools)) {
         Reply::Found(_, Record::Pools(table)) => table.pools(),

@@ -1,12 +1,14 @@
 //! `show`: the pools are shown.
-ghost use Rattle.std.specs.Prelude.{◌≡◌, ◌<◌, ◌≤◌, ◌^◌, [], ◌∷◌, ◌++◌, length, IfOk, OnOk, string_bytes};
+ghost use Rattle.std.specs.Prelude.{◌≡◌, ◌<◌, ◌≤◌, ◌^◌, [], ◌∷◌, ◌++◌, All, length, IfOk, OnOk, string_bytes};
 ghost use Rattle.ipam_records.specs.Datastore.{most_blocks};
 ghost use Rattle.ipam_show.specs.Kept.{blocks_kept};
+ghost use Rattle.ipam_show.specs.Left.{IsOfSlots};
 ghost use Rattle.ipam_show.specs.Pools.{pool_head, pool_row, pool_rows, pools_text, pools_total};
 
 use crate::cells::{add_row, addresses_cell, cidr_cell, percent_cell};
 use crate::counting::{BlockCount, counts_kept};
 use crate::keeping::pools_kept;
+use crate::left::{left_cell, use_word};
 use crate::sums::{Amount, Scope, amount_sum, block_sum};
 use crate::tables::table_text;
 use ipam_pool::Pool;
@@ -16,10 +18,11 @@ use itoa::Buffer;
 use std::alloc::{AllocError, Global};
 
 /// How many columns the table of pools has.
-const COLUMNS: usize = 7;
+const COLUMNS: usize = 9;
 
-/// The pools in a table, a line each, and what they come to: how many addresses are used, how many
-/// could still be given in the blocks that are there, and how many blocks there are.
+/// The pools in a table, a line each, and what they come to: what an ADD may use them for, how many addresses are used,
+/// how many could still be given in the blocks that are there, how many blocks can still be taken, and how many there
+/// are.
 #[tactic(auto, unfolding(crate::specs::Pools::pools_text))]
 pub fn show_pools(alloc: Global, store: &Store) -> Result<String, AllocError>
     requires few { length (blocks_kept store.now.store) ≤ most_blocks }
@@ -35,7 +38,8 @@ fn pool_rows(
     counts: &[BlockCount],
     pools: &[Pool],
 ) -> Result<Vec<Seq<Text>>, AllocError>
-    requires { length counts.now < 2 ^ 32 }
+    requires few { length counts.now < 2 ^ 32 }
+    requires slots { All IsOfSlots pools.now }
     ensures { IfOk result (λ rows. rows.items ≡ pool_rows counts.now pools.now) }
 {
     let mut rows = Vec::new(alloc);
@@ -53,10 +57,12 @@ fn add_pool_head(alloc: Global, rows: &mut Vec<Seq<Text>>) -> Result<(), AllocEr
     let words = [
         "CIDR",
         "NAME",
+        "USE",
         "ADDRESSES",
         "USED",
         "FREE IN BLOCKS",
         "PERCENT USED",
+        "BLOCKS LEFT",
         "BLOCKS",
     ];
     add_row(alloc, rows, &words)
@@ -69,7 +75,8 @@ fn add_pool_row(
     counts: &[BlockCount],
     pool: &Pool,
 ) -> Result<(), AllocError>
-    requires { length counts.now < 2 ^ 32 }
+    requires few { length counts.now < 2 ^ 32 }
+    requires slots { IsOfSlots pool.now }
     ensures { OnOk result (rows.new.items ≡ rows.old.items ++ pool_row counts.now pool.now ∷ []) }
 {
     let scope = Scope::Pool(pool.cidr);
@@ -80,13 +87,16 @@ fn add_pool_row(
     let cidr = cidr_cell(alloc, pool.cidr)?;
     let addresses = addresses_cell(alloc, pool.cidr)?;
     let percent = percent_cell(alloc, sum, pool.cidr)?;
+    let left = left_cell(alloc, counts, pool)?;
     let words = [
         cidr.as_str(),
         pool.name.as_str(),
+        use_word(pool),
         addresses.as_str(),
         used.format(sum),
         free.format(amount_sum(Amount::Free, &scope, counts)),
         percent.as_str(),
+        left.as_str(),
         blocks.format(block_sum(&scope, counts)),
     ];
     add_row(alloc, rows, &words)
@@ -108,8 +118,10 @@ fn add_pools_total(
         "total",
         "",
         "",
+        "",
         used.format(amount_sum(Amount::Used, &Scope::All, counts)),
         free.format(amount_sum(Amount::Free, &Scope::All, counts)),
+        "",
         "",
         blocks.format(block_sum(&Scope::All, counts)),
     ];

@@ -1,17 +1,19 @@
 //! What the blocks of a pool, of a node, or all of them come to.
 ghost use Rattle.std.specs.Prelude.{◌≡◌, ◌<◌, ◌^◌, length, sum_by};
-ghost use Rattle.ipam_show.specs.Scopes.{amount_for, amount_of, block_sum, is_of_node, is_within};
+ghost use Rattle.ipam_show.specs.Scopes.{amount_for, amount_of, block_sum, is_of_node, is_taken, is_within};
 
 use crate::counting::BlockCount;
 use ipam_addr::Cidr;
 
 /// Which blocks count.
 #[derive(Clone, Copy)]
-pub(crate) enum Scope<'a> {
+pub enum Scope<'a> {
     /// All of them.
     All,
     /// The blocks of the pool of this CIDR.
     Pool(Cidr),
+    /// The blocks of the pool of this CIDR that have a node.
+    Taken(Cidr),
     /// The blocks of this node.
     Node(&'a str),
 }
@@ -23,11 +25,19 @@ pub(crate) fn is_within(scope: &Scope<'_>, count: &BlockCount) -> bool
     match scope {
         Scope::All => true,
         Scope::Pool(cidr) => cidr.contains(count.cidr.base()),
+        Scope::Taken(cidr) => is_taken(*cidr, count),
         Scope::Node(node) => is_of_node(node, count),
     }
 }
 
-fn is_of_node(node: &str, count: &BlockCount) -> bool
+fn is_taken(cidr: Cidr, count: &BlockCount) -> bool
+    ensures { result ≡ is_taken cidr count.now }
+{
+    cidr.contains(count.cidr.base()) && count.node.is_some()
+}
+
+/// Whether the block is affine to the node.
+pub fn is_of_node(node: &str, count: &BlockCount) -> bool
     ensures { result ≡ is_of_node node.now count.now }
 {
     match &count.node {
@@ -38,7 +48,10 @@ fn is_of_node(node: &str, count: &BlockCount) -> bool
 
 /// Which of the addresses of a block are counted.
 #[derive(Clone, Copy)]
-pub(crate) enum Amount {
+pub enum Amount {
+    /// All of them.
+    Size,
+    /// Those that are assigned.
     Used,
     /// Those that could still be given.
     Free,
@@ -46,8 +59,8 @@ pub(crate) enum Amount {
     Reserved,
 }
 
-/// How many such addresses they have.
-pub(crate) fn amount_sum(amount: Amount, scope: &Scope<'_>, counts: &[BlockCount]) -> u64
+/// How many such addresses the blocks that count have.
+pub fn amount_sum(amount: Amount, scope: &Scope<'_>, counts: &[BlockCount]) -> u64
     requires { length counts.now < 2 ^ 32 }
     ensures sum { result ≡ sum_by (amount_for amount (is_within scope.now)) counts.now }
     ensures small { result < 2 ^ 48 }
@@ -73,6 +86,7 @@ fn amount_of(amount: Amount, count: &BlockCount) -> u16
     ensures { result ≡ amount_of amount count.now }
 {
     match amount {
+        Amount::Size => count.size,
         Amount::Used => count.used,
         Amount::Free => count.free,
         Amount::Reserved => count
@@ -82,8 +96,8 @@ fn amount_of(amount: Amount, count: &BlockCount) -> u16
     }
 }
 
-/// How many they are.
-pub(crate) fn block_sum(scope: &Scope<'_>, counts: &[BlockCount]) -> u64
+/// How many blocks count.
+pub fn block_sum(scope: &Scope<'_>, counts: &[BlockCount]) -> u64
     requires { length counts.now < 2 ^ 32 }
     ensures { result ≡ block_sum (is_within scope.now) counts.now }
 {

@@ -7,11 +7,7 @@ use std::alloc::{AllocError, Global};
 
 /// The text of the table of these rows, with this many columns. Each column is as wide as its longest
 /// text, in bytes. The first one's texts stand at its left end, and the others' at their right ends.
-pub(crate) fn table_text(
-    alloc: Global,
-    columns: usize,
-    rows: &[Seq<Text>],
-) -> Result<String, AllocError>
+pub fn table_text(alloc: Global, columns: usize, rows: &[Seq<Text>]) -> Result<String, AllocError>
     ensures { IfOk result (λ text. string_bytes text ≡ table_text columns rows.now) }
 {
     let widths = widths(alloc, columns, rows)?;

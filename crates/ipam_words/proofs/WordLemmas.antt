@@ -4,7 +4,7 @@ use Rattle.std.specs.Prelude.{bytes_eq, codes, nat_le, option_map, option_and_th
 use Rattle.std.specs.Option.{option_or}
 use Rattle.std.proofs.lemmas.Bool.{leb-true}
 use Rattle.ipam_addr.specs.declared.cidrs.AddrFault.{AddrFault}
-use Rattle.ipam_addr.specs.Names.{is_name_text}
+use Rattle.ipam_addr.specs.Names.{is_handle_text, is_name_text}
 use Rattle.ipam_addr.specs.Shape.{AddrValue, CidrValue}
 use Rattle.ipam_addr.specs.Text.{address_of, cidr_reading}
 use Rattle.ipam_words.specs.declared.command.Command.{Command}
@@ -15,7 +15,7 @@ use Rattle.ipam_words.specs.declared.view.Form.{Form}
 use Rattle.ipam_words.specs.declared.view.Form.TheVariants as form
 use Rattle.ipam_words.specs.Views.{AskedChoice}
 use Rattle.ipam_words.specs.Views as seen
-use Rattle.ipam_words.specs.Words.{AreWorkers, AskedCommand, call_named, is_option, Cni, Play, Apply, Get, Routes, Gen, Show, Audit, Serve, Call, Help, Version, IsSound, address_seen, asked_by, audit_named, count_named, generated_of, first_named, get_named, get_of, node_view_named, small_number_of, release_named, release_of, routes_named, second_named, serve_named, view_named, word_named, workers_of, workers_within, four_listed, is_json, listed, listing_named, look_named, more_named, one_chosen, other_named, show_named, three_chosen, three_listed, two_chosen, two_listed}
+use Rattle.ipam_words.specs.Words.{AreWorkers, AskedCommand, call_named, is_option, Cni, Play, Apply, Get, Routes, Gen, Show, Audit, Serve, Call, Help, Version, IsSound, address_seen, asked_by, audit_named, count_named, generated_of, first_named, get_named, get_of, small_number_of, release_named, release_of, routes_named, second_named, serve_named, view_named, word_named, workers_of, workers_within, four_listed, is_json, listed, listing_named, config_as_json, holder_as_json, holder_named, look_named, pair_looked, more_named, one_chosen, other_named, show_named, three_chosen, three_listed, two_chosen, two_listed}
 
 -- what is asked, if anything, is sound
 abbrev AllSound : Option AskedCommand → Type 0
@@ -57,11 +57,9 @@ view-sound : (word : List ℕ) → AllSound (view_named word)
 unfolding view_named
 view-sound word =
     if-sound (bytes_eq word (codes "--json")) (Some (Show seen.Json)) _ tt
-    (if-sound (bytes_eq word (codes "blocks")) (Some (Show seen.Blocks)) (address_seen (address_of word)) tt (address-sound (address_of word)))
-
-node-sound : (word node : List ℕ) → AllSound (node_view_named word node)
-unfolding node_view_named
-node-sound word node = if-sound (bytes_eq word (codes "node") && is_name_text node) (Some (Show (seen.Node node))) None tt tt
+    (if-sound (bytes_eq word (codes "--metrics")) (Some (Show seen.Metrics)) _ tt
+    (if-sound (bytes_eq word (codes "blocks")) (Some (Show seen.Blocks)) _ tt
+    (if-sound (bytes_eq word (codes "config")) (Some (Show (seen.Config form.Table))) (address_seen (address_of word)) tt (address-sound (address_of word)))))
 
 -- ---- workers
 
@@ -161,11 +159,32 @@ listing-sound (word ∷ first ∷ last ∷ []) = three-listed word first last
 listing-sound (word ∷ first ∷ second ∷ last ∷ []) = four-listed word first second last
 listing-sound (word ∷ first ∷ second ∷ third ∷ fourth ∷ more) = tt
 
+holder-sound : (form : Form) (word name : List ℕ) → AllSound (holder_named form word name)
+unfolding holder_named
+holder-sound form word name =
+    if-sound (bytes_eq word (codes "node") && is_name_text name) (Some (Show (seen.Node name form))) _ tt
+    (if-sound (bytes_eq word (codes "handle") && is_handle_text name) (Some (Show (seen.Handle name form))) None tt tt)
+
+config-sound : (word : List ℕ) → AllSound (config_as_json word)
+unfolding config_as_json
+config-sound word = if-sound (bytes_eq word (codes "config")) (Some (Show (seen.Config form.Json))) None tt tt
+
+pair-sound : (word name : List ℕ) → AllSound (pair_looked word name)
+unfolding pair_looked
+pair-sound word name =
+    if-sound (is_json name) (config_as_json word) (holder_named form.Table word name) (config-sound word) (holder-sound form.Table word name)
+
+json-sound : (word name last : List ℕ) → AllSound (holder_as_json word name last)
+unfolding holder_as_json
+json-sound word name last =
+    if-sound (is_json last) (holder_named form.Json word name) None (holder-sound form.Json word name) tt
+
 look-sound : (words : List (List ℕ)) → AllSound (look_named words)
 look-sound [] = tt
 look-sound (word ∷ []) = view-sound word
-look-sound (word ∷ node ∷ []) = node-sound word node
-look-sound (word ∷ node ∷ other ∷ more) = tt
+look-sound (word ∷ name ∷ []) = pair-sound word name
+look-sound (word ∷ name ∷ last ∷ []) = json-sound word name last
+look-sound (word ∷ name ∷ last ∷ other ∷ more) = tt
 
 -- ---- all words
 

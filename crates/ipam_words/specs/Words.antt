@@ -4,7 +4,7 @@ use Rattle.std.specs.Str.Parse.{digits_value}
 use Rattle.std.specs.Option.{option_or}
 use Rattle.ipam_json.specs.Path.{is_index}
 use Rattle.ipam_addr.specs.declared.cidrs.AddrFault.{AddrFault}
-use Rattle.ipam_addr.specs.Names.{is_name_text}
+use Rattle.ipam_addr.specs.Names.{is_handle_text, is_name_text}
 use Rattle.ipam_addr.specs.Shape.{AddrValue, CidrValue}
 use Rattle.ipam_addr.specs.Text.{address_of, cidr_reading}
 use Rattle.ipam_words.specs.declared.command.Command.{Command}
@@ -79,12 +79,14 @@ abbrev pub address_seen : Option AddrValue → Option AskedCommand
 address_seen (Some address) = Some (Show (seen.Address address))
 address_seen None = None
 
--- the pools as JSON, the blocks, or the address that the word writes
+-- the pools as JSON, the numbers for Prometheus, the blocks, the configuration, or the address that the word writes
 unfoldable pub view_named : List ℕ → Option AskedCommand
 view_named word =
     if bytes_eq word (codes "--json") then Some (Show seen.Json)
+    else (if bytes_eq word (codes "--metrics") then Some (Show seen.Metrics)
     else (if bytes_eq word (codes "blocks") then Some (Show seen.Blocks)
-    else address_seen (address_of word))
+    else (if bytes_eq word (codes "config") then Some (Show (seen.Config form.Table))
+    else address_seen (address_of word))))
 
 unfoldable pub routes_named : List ℕ → Option AskedCommand
 routes_named node = if is_name_text node then Some (Routes node) else None
@@ -140,10 +142,6 @@ release_named node block = if is_name_text node then release_of node (cidr_readi
 unfoldable pub serve_named : (address word : List ℕ) → Option AskedCommand
 serve_named address word = if is_option address then None else option_map (Serve address) (workers_of word)
 
-unfoldable pub node_view_named : (word node : List ℕ) → Option AskedCommand
-node_view_named word node =
-    if bytes_eq word (codes "node") && is_name_text node then Some (Show (seen.Node node)) else None
-
 unfoldable pub second_named : (word first second : List ℕ) → Option AskedCommand
 second_named word first second =
     if bytes_eq word (codes "release") then release_named first second
@@ -151,6 +149,10 @@ second_named word first second =
     else None)
 
 -- ---- words after `show`
+
+-- whether the last word asks for JSON
+abbrev pub is_json : (last : List ℕ) → Bool
+is_json last = bytes_eq last (codes "--json")
 
 -- which of the addresses in use are shown
 unfoldable pub one_chosen : (word : List ℕ) → Option AskedChoice
@@ -176,10 +178,6 @@ abbrev pub listed : Form → Option AskedChoice → Option AskedCommand
 listed form None = None
 listed form (Some chosen) = Some (Show (seen.Addresses chosen form))
 
--- whether the last word asks for JSON
-abbrev pub is_json : (last : List ℕ) → Bool
-is_json last = bytes_eq last (codes "--json")
-
 unfoldable pub two_listed : (word last : List ℕ) → Option AskedCommand
 two_listed word last =
     if is_json last then listed form.Json (one_chosen word) else listed form.Table (two_chosen word last)
@@ -200,12 +198,29 @@ listing_named (word ∷ first ∷ last ∷ []) = three_listed word first last
 listing_named (word ∷ first ∷ second ∷ last ∷ []) = four_listed word first second last
 listing_named (word ∷ first ∷ second ∷ third ∷ fourth ∷ more) = None
 
--- pools, blocks, an address or a node
+-- the node or the handle of the name, in this form
+unfoldable pub holder_named : Form → (word name : List ℕ) → Option AskedCommand
+holder_named form word name =
+    if bytes_eq word (codes "node") && is_name_text name then Some (Show (seen.Node name form))
+    else (if bytes_eq word (codes "handle") && is_handle_text name then Some (Show (seen.Handle name form))
+    else None)
+
+unfoldable pub config_as_json : (word : List ℕ) → Option AskedCommand
+config_as_json word = if bytes_eq word (codes "config") then Some (Show (seen.Config form.Json)) else None
+
+unfoldable pub pair_looked : (word name : List ℕ) → Option AskedCommand
+pair_looked word name = if is_json name then config_as_json word else holder_named form.Table word name
+
+unfoldable pub holder_as_json : (word name last : List ℕ) → Option AskedCommand
+holder_as_json word name last = if is_json last then holder_named form.Json word name else None
+
+-- pools, numbers, blocks, the configuration, an address, a node or a handle
 abbrev pub look_named : List (List ℕ) → Option AskedCommand
 look_named [] = None
 look_named (word ∷ []) = view_named word
-look_named (word ∷ node ∷ []) = node_view_named word node
-look_named (word ∷ node ∷ other ∷ more) = None
+look_named (word ∷ name ∷ []) = pair_looked word name
+look_named (word ∷ name ∷ last ∷ []) = holder_as_json word name last
+look_named (word ∷ name ∷ last ∷ other ∷ more) = None
 
 abbrev pub show_named : List (List ℕ) → Option AskedCommand
 show_named words = option_or (look_named words) (listing_named words)

@@ -13,7 +13,7 @@ pub enum Command<'a> {
     Apply,
     /// Writes the rows, or those of one kind.
     Get(Option<RowKind>),
-    /// Shows the pools, the blocks, an address, a node or addresses in use.
+    /// Shows the pools, the blocks, an address, a node, a handle, addresses in use, the configuration or numbers.
     Show(View<'a>),
     /// Writes the blocks that are confirmed to the node. The name is one of a node.
     Routes(&'a str),

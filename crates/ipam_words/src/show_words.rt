@@ -1,11 +1,11 @@
 //! The words after `show`.
 ghost use Rattle.std.specs.Prelude.{◌≡◌, map, option_map, string_bytes};
 ghost use Rattle.ipam_addr.specs.Text.{address_of};
-ghost use Rattle.ipam_words.specs.Words.{address_seen, asked_by, four_listed, is_json, listed, listing_named, look_named, node_view_named, one_chosen, show_named, three_chosen, three_listed, two_chosen, two_listed, view_named};
+ghost use Rattle.ipam_words.specs.Words.{address_seen, asked_by, config_as_json, four_listed, holder_as_json, holder_named, is_json, listed, listing_named, look_named, one_chosen, pair_looked, show_named, three_chosen, three_listed, two_chosen, two_listed, view_named};
 
 use crate::command::Command;
 use crate::view::{Choice, Form, View};
-use ipam_addr::{is_name, read_addr, read_cidr};
+use ipam_addr::{is_handle_id, is_name, read_addr, read_cidr};
 
 /// What the words after `show` ask, where there are some.
 pub(crate) fn show_named<'a>(words: &'a [String]) -> Option<Command<'a>>
@@ -22,7 +22,8 @@ fn look_named<'a>(words: &'a [String]) -> Option<Command<'a>>
 {
     match words {
         [word] => view_named(word.as_str()),
-        [word, node] => node_named(word.as_str(), node.as_str()),
+        [word, name] => pair_looked(word.as_str(), name.as_str()),
+        [word, name, last] => holder_as_json(word.as_str(), name.as_str(), last.as_str()),
         _ => None,
     }
 }
@@ -33,7 +34,9 @@ fn view_named<'a>(word: &str) -> Option<Command<'a>>
 {
     match word {
         "--json" => Some(Command::Show(View::Json)),
+        "--metrics" => Some(Command::Show(View::Metrics)),
         "blocks" => Some(Command::Show(View::Blocks)),
+        "config" => Some(Command::Show(View::Config(Form::Table))),
         _ => address_named(word),
     }
 }
@@ -47,12 +50,48 @@ fn address_named<'a>(word: &str) -> Option<Command<'a>>
     }
 }
 
-#[tactic(auto, unfolding(crate::specs::Words::node_view_named))]
-fn node_named<'a>(word: &str, node: &'a str) -> Option<Command<'a>>
-    ensures { option_map asked_by result ≡ node_view_named word.now node.now }
+#[tactic(auto, unfolding(crate::specs::Words::pair_looked))]
+fn pair_looked<'a>(word: &str, name: &'a str) -> Option<Command<'a>>
+    ensures { option_map asked_by result ≡ pair_looked word.now name.now }
 {
-    if word == "node" && is_name(node.as_bytes()) {
-        Some(Command::Show(View::Node(node)))
+    if is_json(name) {
+        config_as_json(word)
+    } else {
+        holder_named(word, name, Form::Table)
+    }
+}
+
+#[tactic(auto, unfolding(crate::specs::Words::config_as_json))]
+fn config_as_json<'a>(word: &str) -> Option<Command<'a>>
+    ensures { option_map asked_by result ≡ config_as_json word.now }
+{
+    if word == "config" {
+        Some(Command::Show(View::Config(Form::Json)))
+    } else {
+        None
+    }
+}
+
+/// The node or the handle of the name.
+#[tactic(auto, unfolding(crate::specs::Words::holder_named))]
+fn holder_named<'a>(word: &str, name: &'a str, form: Form) -> Option<Command<'a>>
+    ensures { option_map asked_by result ≡ holder_named form word.now name.now }
+{
+    if word == "node" && is_name(name.as_bytes()) {
+        Some(Command::Show(View::Node(name, form)))
+    } else if word == "handle" && is_handle_id(name.as_bytes()) {
+        Some(Command::Show(View::Handle(name, form)))
+    } else {
+        None
+    }
+}
+
+#[tactic(auto, unfolding(crate::specs::Words::holder_as_json))]
+fn holder_as_json<'a>(word: &str, name: &'a str, last: &str) -> Option<Command<'a>>
+    ensures { option_map asked_by result ≡ holder_as_json word.now name.now last.now }
+{
+    if is_json(last) {
+        holder_named(word, name, Form::Json)
     } else {
         None
     }

@@ -4,13 +4,13 @@ ghost use Rattle.ipam_call.specs.Daemon.{address_of};
 ghost use Rattle.ipam_call.specs.Values.{last_value};
 ghost use Rattle.ipam_words.specs.Daemon.{ask_of, daemon_asked};
 
-use crate::hinting::{KeptSource, hint_document};
+use crate::hinting::{KeptSink, KeptSource, hint_asked, hint_document};
 use crate::viewed::Viewed;
 use ipam_call::{Connector, Connects, DialError, Limits, connect_seconds, daemon_named};
 use ipam_io::{Link, Sink, StdSink, StdSource};
 use ipam_operator::{End, apply, get, release, routes, show, unreached};
 use ipam_text::Seq;
-use ipam_words::{Command, DaemonAsk, daemon_asked};
+use ipam_words::{Command, DaemonAsk, View, daemon_asked};
 use std::io;
 use std::time::Duration;
 
@@ -81,7 +81,7 @@ fn ask_over<L: Link>(rt: &HostRuntime, command: &Command<'_>, link: &mut L) -> u
     let mut sink = StdSink::new(io::writer(rt));
     let end = match command {
         Command::Get(kind) => get(rt.alloc(), &mut sink, link, *kind),
-        Command::Show(view) => show(rt.alloc(), &mut sink, link, view),
+        Command::Show(view) => ask_shown(rt, link, view),
         Command::Routes(node) => routes(rt.alloc(), &mut sink, link, node),
         Command::Release(node, block) => release(rt.alloc(), &mut sink, link, node, *block),
         Command::Apply => ask_applied(rt, &mut sink, link),
@@ -95,6 +95,14 @@ fn ask_over<L: Link>(rt: &HostRuntime, command: &Command<'_>, link: &mut L) -> u
         | Command::Version => return unasked(rt),
     };
     end.code()
+}
+
+/// Asks for what is shown, and tells that no row names a node.
+fn ask_shown<L: Link>(rt: &HostRuntime, link: &mut L, view: &View<'_>) -> End {
+    let mut sink = KeptSink::new(rt.alloc(), StdSink::new(io::writer(rt)));
+    let end = show(rt.alloc(), &mut sink, link, view);
+    hint_asked(rt, view, sink.shown(), link);
+    end
 }
 
 /// Asks for the resources of the document on standard input, and tells what nobody reads of it.

@@ -1,14 +1,18 @@
-//! Hints on standard error after a document was applied or a block released. Where one can't be made or written,
-//! nothing else changes.
+//! Hints on standard error after a document was applied, a block released or a node shown. Where one can't be made or
+//! written, nothing else changes.
 ghost use Rattle.std.specs.Prelude.{◌≡◌};
 
 use ipam_addr::Cidr;
 use ipam_command::run_command;
-use ipam_hints::{HINTED_MAX, document_hints, names_pools, pool_hints, released_hint};
-use ipam_io::{Failed, MemorySink, MemorySource, Source};
+use ipam_hints::{
+    HINTED_MAX, SHOWN_MAX, document_hints, names_pools, pool_hints, released_hint, shows_nothing,
+    unnamed_hint,
+};
+use ipam_io::{Failed, Link, MemorySink, MemorySource, Sink, Source};
 use ipam_keeper::Keeper;
+use ipam_operator::get;
 use ipam_text::Text;
-use ipam_words::{Command, read_words};
+use ipam_words::{Command, RowKind, View, read_words};
 use std::alloc::{AllocError, Global};
 use std::str;
 
@@ -18,7 +22,7 @@ const DONE: u8 = 0;
 /// The status of a command that was refused.
 const REFUSED: u8 = 1;
 
-/// The most bytes of what is looked up for a hint: the row of the pools, or the table of the blocks.
+/// The most bytes of what is looked up for a hint: the row of the pools, the table of the blocks, or the affinities.
 const LOOK_MAX: usize = 4 * 1024 * 1024;
 
 /// A source that keeps what was read of a document. It reads what the source below it does.
@@ -94,6 +98,61 @@ impl<S: Source> Source for KeptSource<S> {
     }
 }
 
+/// A sink that keeps what was written to it, while that is short. It writes to the sink below it.
+#[derive(Drop)]
+pub(crate) struct KeptSink<K> {
+    sink: K,
+    /// None where more was written, and where there was no memory.
+    written: Option<Vec<u8>>,
+}
+
+impl<K: Sink> KeptSink<K> {
+    pub(crate) fn new(alloc: Global, sink: K) -> KeptSink<K>
+        ensures { result.sink ≡ sink }
+    {
+        KeptSink {
+            sink,
+            written: Some(Vec::new(alloc)),
+        }
+    }
+
+    /// What was written, where it is short.
+    pub(crate) fn shown(&self) -> Option<&[u8]> {
+        match &self.written {
+            Some(written) => Some(written.as_slice()),
+            None => None,
+        }
+    }
+
+    fn keep(&mut self, piece: &[u8])
+        ensures { self.new.sink ≡ self.old.sink }
+    {
+        let is_kept = match &mut self.written {
+            Some(written) => {
+                written.len().saturating_add(piece.len()) <= SHOWN_MAX
+                    && written.extend_from_slice(piece).is_ok()
+            }
+            None => true,
+        };
+        if !is_kept {
+            self.written = None;
+        }
+    }
+}
+
+impl<K: Sink> Sink for KeptSink<K> {
+    ghost written = { λ kept. K.written kept.sink };
+
+    ghost write_faults = { λ kept. K.write_faults kept.sink };
+
+    ghost write_rest = { λ kept. K.write_rest kept.sink };
+
+    fn write(&mut self, piece: &[u8]) -> Result<(), Failed> {
+        self.keep(piece);
+        self.sink.write(piece)
+    }
+}
+
 /// Tells what the document has that was refused or not read.
 pub(crate) fn hint_document(rt: &HostRuntime, document: Option<&[u8]>, status: u8) {
     match document {
@@ -110,6 +169,7 @@ pub(crate) fn hint_kept<D: Keeper>(
     words: &[String],
     variables: &[(Text, Text)],
     document: Option<&[u8]>,
+    shown: Option<&[u8]>,
     status: u8,
     keeper: &mut D,
 ) {
@@ -121,7 +181,7 @@ pub(crate) fn hint_kept<D: Keeper>(
         return;
     }
     match read_words(words) {
-        Some(command) if status == DONE => hint_done(rt, variables, &command, keeper),
+        Some(command) if status == DONE => hint_done(rt, variables, &command, shown, keeper),
         _ => {}
     }
 }
@@ -131,11 +191,57 @@ fn hint_done<D: Keeper>(
     rt: &HostRuntime,
     variables: &[(Text, Text)],
     command: &Command<'_>,
+    shown: Option<&[u8]>,
     keeper: &mut D,
 ) {
     match command {
         Command::Release(_, block) => hint_released(rt, variables, *block, keeper),
+        Command::Show(View::Node(node, _)) if is_nothing(shown) => {
+            if let Ok(sink) = looked(rt, "get", "affinity", variables, keeper) {
+                tell_unnamed(rt, node, sink.written());
+            }
+        }
         _ => {}
+    }
+}
+
+/// Tells that no row names the node of which a daemon showed this, if none does.
+pub(crate) fn hint_asked<L: Link>(
+    rt: &HostRuntime,
+    view: &View<'_>,
+    shown: Option<&[u8]>,
+    link: &mut L,
+) {
+    match view {
+        View::Node(node, _) if is_nothing(shown) => {
+            if let Ok(mut sink) = MemorySink::new(rt.alloc(), LOOK_MAX, Vec::new(rt.alloc())) {
+                let _ = get(rt.alloc(), &mut sink, link, Some(RowKind::Affinity));
+                tell_unnamed(rt, node, sink.written());
+            }
+        }
+        _ => {}
+    }
+}
+
+/// Whether this was shown of a node that has no block and no address.
+fn is_nothing(shown: Option<&[u8]>) -> bool {
+    match shown {
+        Some(shown) => match str::from_utf8(shown) {
+            Ok(text) => shows_nothing(text),
+            Err(_) => false,
+        },
+        None => false,
+    }
+}
+
+/// Tells that no row names the node, if none of these affinities does.
+fn tell_unnamed(rt: &HostRuntime, node: &str, affinities: &[u8]) {
+    let Ok(affinities) = str::from_utf8(affinities) else {
+        return;
+    };
+    if let Ok(Some(line)) = unnamed_hint(rt.alloc(), node, affinities) {
+        let line = line.as_str();
+        let _ = eprintln!(rt; "ipam: {line}");
     }
 }
 

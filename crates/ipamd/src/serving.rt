@@ -2,7 +2,10 @@
 use crate::causes::Noting;
 use crate::telling::{line_of_fault, tell_no_path, tell_reading};
 use ipam_call::{Database, database_named};
-use ipam_daemon::{Host, Opening, Served, new_opening, serve, tell_in_time, tell_served};
+use ipam_daemon::{
+    Address, Alarm, Host, Limits, Opening, Served, SocketListener, new_opening, serve,
+    tell_in_time, tell_served,
+};
 use ipam_io::StdSink;
 use ipam_sqlite::{SqliteKeeper, StorageFault, Waiting, fold_log, open_served};
 use ipam_text::{Seq, Text};
@@ -91,6 +94,17 @@ struct Ended {
     listener: Option<io::Error>,
 }
 
+impl Ended {
+    /// There was no memory to begin with.
+    fn for_want_of_memory() -> Ended {
+        Ended {
+            served: Served::NoMemory,
+            database: None,
+            listener: None,
+        }
+    }
+}
+
 /// Serves what a keeper over this store has. Which store it is stays open here, since what a connection
 /// holds is looked through for each kind of store that a thread is handed.
 fn serve_stored<
@@ -105,17 +119,28 @@ fn serve_stored<
     workers: u8,
 ) -> Ended {
     let Ok((keeper, cause)) = Noting::of(alloc, keeper) else {
-        return Ended {
-            served: Served::NoMemory,
-            database: None,
-            listener: None,
-        };
+        return Ended::for_want_of_memory();
     };
-    let (served, _keeper, listener) = serve(threads, alloc, keeper, opening, address, workers);
+    let Ok((alarm, mut watch)) = Alarm::new(alloc) else {
+        return Ended::for_want_of_memory();
+    };
+    let limits = Limits::of_session();
+    let mut listener = SocketListener::new(&threads, alloc, Address::of(address), limits);
+    let (served, _keeper) = serve(
+        threads,
+        alloc,
+        keeper,
+        opening,
+        &mut listener,
+        workers,
+        limits,
+        alarm,
+        &mut watch,
+    );
     Ended {
         served,
         database: cause.last(),
-        listener,
+        listener: listener.why(),
     }
 }
 

@@ -3,7 +3,7 @@ ghost use Rattle.std.specs.Prelude.{IfSome};
 ghost use Rattle.ipam_words.specs.Upkeep.{IsFit, of_upkeep};
 
 use crate::freeing::Freeing;
-use crate::hinting::{KeptSource, hint_kept};
+use crate::hinting::{KeptSink, KeptSource, hint_kept};
 use crate::telling::{tell_missing, tell_no_path, tell_reading, tell_why};
 use crate::upkeep::{Rows, back_up};
 use ipam_call::Database;
@@ -141,8 +141,16 @@ fn run_words<D: Keeper>(
     keeper: &mut D,
 ) -> u8 {
     let mut source = KeptSource::new(rt.alloc(), StdSource::new(rt.stdin()), words);
-    let mut sink = StdSink::new(io::writer(rt));
+    let mut sink = KeptSink::new(rt.alloc(), StdSink::new(io::writer(rt)));
     let status = run_command(rt.alloc(), words, variables, &mut source, &mut sink, keeper);
-    hint_kept(rt, words, variables, source.document(), status, keeper);
+    hint_kept(
+        rt,
+        words,
+        variables,
+        source.document(),
+        sink.shown(),
+        status,
+        keeper,
+    );
     status
 }

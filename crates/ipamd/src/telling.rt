@@ -36,7 +36,7 @@ fn wanted_by(first: &str) -> Option<&'static str> {
     match first {
         "cni" | "play" | "apply" | "--help" | "--version" => Some("no more words"),
         "show" => Some(
-            "no more words, or --json, blocks, IP, node NODE, addresses, addresses CIDR, addresses --node NODE, or borrowed",
+            "no more words, or --json, --metrics, blocks, IP, node NODE, handle HANDLE, config, addresses, addresses CIDR, addresses --node NODE, or borrowed",
         ),
         "get" => Some(
             "no more words, or one of config, pools, reservations, block, affinity and handle",

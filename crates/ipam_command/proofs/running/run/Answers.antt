@@ -1,7 +1,7 @@
 use Rattle.std.proofs.Common.{Some, refl, ap, rules, subst}
 use Rattle.ipam_words.specs.declared.command.Command.{Command}
 use Rattle.ipam_words.specs.Words.{Cni, Play, Apply, Get, Help, IsSound, Routes, Release, Gen, Show, Version, asked_by}
-use Rattle.ipam_show.specs.Shown.{shown_text}
+use Rattle.ipam_views.specs.Shown.{shown_text}
 use Rattle.ipam_words.specs.Views.{seen_by}
 use Rattle.ipam_commands.specs.Texts.{routes_text}
 use Rattle.ipam_show.specs.Rows.{rows_text}

@@ -1,6 +1,6 @@
 use Rattle.std.proofs.Common.{Some, None, refl}
 use Rattle.ipam_operator.specs.Telling.{Said, Untold}
-use Rattle.ipam_show.specs.Shown.{shown_text}
+use Rattle.ipam_views.specs.Shown.{shown_text}
 use Rattle.ipam_words.specs.Views.{seen_by}
 use Rattle.ipam_operator.proofs.ShowSaying.{says_of}
 use Rattle.ipam_operator.proofs.showing.tell_rows.Goals as goal

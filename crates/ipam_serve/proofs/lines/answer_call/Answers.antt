@@ -1,4 +1,4 @@
-use Rattle.std.proofs.Common.{Some}
+use Rattle.std.proofs.Common.{Some, inl, refl}
 use Rattle.ipam_session.specs.declared.wish.Wish.TheVariants as wish
 use Rattle.ipam_shared.specs.Passes.{runs_in}
 use Rattle.ipam_serve.proofs.LineParts.{call-timeless, call-told, call-waiting, none-waits, rests-none, rests-waits}
@@ -42,7 +42,7 @@ returns-in-Ok-Runs-clause-comes g c =
     (rw c.in-Ok-Runs.field-0-is at c.in-Ok-Runs.ensures.begun) c.tell_run.ensures.comes
 
 pub returns-in-Err-clause-comes : goal.returns-in-Err-clause-comes
-returns-in-Err-clause-comes g c = comes-memory g.D.Keeper.rows g.D.Keeper.given g.D.Keeper.faults (server_at c.args.pass.now (g.G.SessionGate.turns c.args.gate.now) (g.C.Clock.ahead c.args.clock.now)) (Some (wish.Cni c.args.env c.args.stdin))
+returns-in-Err-clause-comes g c = comes-memory g.D.Keeper.rows g.D.Keeper.given g.D.Keeper.faults (server_at c.args.pass.now (g.G.SessionGate.turns c.args.gate.now) (g.C.Clock.ahead c.args.clock.now)) (Some (wish.Cni c.args.env c.args.stdin)) (inl refl)
 
 pub returns-then-running-clause-admitted : goal.returns-then-running-clause-admitted
 returns-then-running-clause-admitted g c = admits-nothing g.G.SessionGate.admits c.args.pass.now

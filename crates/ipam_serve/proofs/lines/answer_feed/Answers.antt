@@ -36,7 +36,7 @@ returns-in-Err-clause-comes g c =
     let waits : is_waiting (runs_in c.args.pass.now) ≡ true = rests-waits (runs_in c.args.pass.now) c.running.result c.requires.rests c.running.ensures c.if-not-running.false in
     comes-unfed g.D.Keeper.rows g.D.Keeper.given g.D.Keeper.faults (server_at c.args.pass.now (g.G.SessionGate.turns c.args.gate.now) (g.C.Clock.ahead c.args.clock.now))
     (server_at c.run_feed.new.pass (g.G.SessionGate.turns c.run_feed.new.gate) (g.C.Clock.ahead c.now-at.new.self))
-    c.args.live.now c.now-at.result waits c.now-at.ensures c.run_feed.ensures.keeper c.in-Err.broken c.in-Err.ensures.broken c.in-Err.ensures.worn c.in-Err.ensures.runs
+    c.args.live.now c.now-at.result waits c.now-at.ensures c.run_feed.ensures.keeper c.in-Err.broken c.in-Err.ensures.broken c.in-Err.ensures.worn c.in-Err.ensures.runs c.in-Err.ensures.memory
 
 pub returns-then-not-running-clause-admitted : goal.returns-then-not-running-clause-admitted
 returns-then-not-running-clause-admitted g c = admits-nothing g.G.SessionGate.admits c.args.pass.now

@@ -31,7 +31,7 @@ returns-in-Err-clause-comes g c =
     (server_at c.run_request.new.pass (g.G.SessionGate.turns c.run_request.new.gate) (g.C.Clock.ahead c.set_time-at.new.clock))
     c.args.request.now c.set_time-at.result
     (none-waits _ (rests-none (runs_in c.args.pass.now) c.running.result c.running.ensures c.if-running.false)) c.set_time-at.ensures.reads
-    c.run_request.ensures.keeper c.in-Err.broken (rw c.set_time-at.ensures.timed at c.in-Err.ensures.broken) c.in-Err.ensures.worn c.in-Err.ensures.unanswered
+    c.run_request.ensures.keeper c.in-Err.broken (rw c.set_time-at.ensures.timed at c.in-Err.ensures.broken) c.in-Err.ensures.worn c.in-Err.ensures.unanswered c.in-Err.ensures.memory
 
 pub run_request-requires-clause-sound : goal.run_request-requires-clause-sound
 run_request-requires-clause-sound g c = c.set_time-at.ensures.sound c.requires.sound

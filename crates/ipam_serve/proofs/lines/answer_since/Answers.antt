@@ -15,7 +15,7 @@ pub returns-in-Err-clause-comes : goal.returns-in-Err-clause-comes
 returns-in-Err-clause-comes g c turns ahead =
     comes-unseen g.D.Keeper.rows g.D.Keeper.given g.D.Keeper.faults (server_at c.args.pass.now turns ahead) c.routes_since.new.pass c.in-Err.ensures.turn.took (Some (wish.RoutesSince c.args.revision)) c.in-Err.broken
     (since-breaks (server_at c.args.pass.now turns ahead) c.routes_since.new.pass c.in-Err.ensures.turn.took c.args.revision)
-    (since-wears c.args.pass.now c.routes_since.new.pass c.args.revision c.in-Err.ensures.turn.took) c.in-Err.ensures.turn.worn
+    (since-wears c.args.pass.now c.routes_since.new.pass c.args.revision c.in-Err.ensures.turn.took) c.in-Err.ensures.turn.worn c.in-Err.ensures.memory
 
 pub returns-in-Err-clause-stops : goal.returns-in-Err-clause-stops
 returns-in-Err-clause-stops g c count = never-halts c.in-Err.broken count c.in-Err.ensures.turn.not_halted

@@ -17,7 +17,7 @@ returns-then-not-running-clause-comes g c turns ahead =
 pub returns-then-left-lt2-clause-comes : goal.returns-then-left-lt2-clause-comes
 returns-then-left-lt2-clause-comes g c turns ahead =
     let waits : is_waiting (runs_in c.args.pass.now) ≡ true = rests-waits (runs_in c.args.pass.now) c.running.result c.requires.rests c.running.ensures c.if-not-running.false in
-    comes-unstopped g.D.Keeper.rows g.D.Keeper.given g.D.Keeper.faults (server_at c.args.pass.now turns ahead) c.args.pass.now waits Worn refl (rw (← c.left.ensures) c.if-left-lt2.true)
+    comes-unstopped g.D.Keeper.rows g.D.Keeper.given g.D.Keeper.faults (server_at c.args.pass.now turns ahead) c.args.pass.now waits Worn refl (rw (← c.left.ensures) c.if-left-lt2.true) tt
 
 pub returns-clause-comes : goal.returns-clause-comes
 returns-clause-comes g c turns ahead =

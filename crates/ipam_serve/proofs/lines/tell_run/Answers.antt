@@ -13,4 +13,4 @@ returns-in-Ok-clause-stops g c = memory-halts c.call_reply.result _ _ c.call_rep
 pub returns-in-Err-clause-comes : goal.returns-in-Err-clause-comes
 returns-in-Err-clause-comes g c =
     comes-untold g.D.Keeper.rows g.D.Keeper.given g.D.Keeper.faults (record { pass = c.args.pass.now; turns = g.G.SessionGate.turns c.args.gate.now }) (record { pass = c.run_call.new.pass; turns = g.G.SessionGate.turns c.run_call.new.gate })
-    c.args.request.now c.args.version c.in-Err.broken c.in-Err.ensures.broken c.in-Err.ensures.worn c.in-Err.ensures.unanswered c.run_call.ensures.keeper
+    c.args.request.now c.args.version c.in-Err.broken c.in-Err.ensures.broken c.in-Err.ensures.worn c.in-Err.ensures.unanswered c.in-Err.ensures.memory c.run_call.ensures.keeper

@@ -2,11 +2,13 @@ use Rattle.ipam_model.specs.declared.request.Request.TheVariants.{Collect}
 use Rattle.ipam_shared.specs.Passes.{runs_in}
 use Rattle.ipam_serve.proofs.Onward.{own-fed-of, own-memory, own-unfed-of}
 use Rattle.ipam_serve.proofs.Running.{never-early}
+use Rattle.ipam_serve.proofs.Wearing.{no-collect}
 use Rattle.ipam_serve.proofs.Admitting.{admits-nothing}
 use Rattle.ipam_serve.proofs.requests.feed_own.Goals as goal
 
 pub returns-in_default-clause-fed : goal.returns-in_default-clause-fed
 returns-in_default-clause-fed g c = own-memory g.D.Keeper.rows g.D.Keeper.given g.D.Keeper.faults (record { pass = c.args.pass.now; turns = g.G.SessionGate.turns c.args.gate.now }) _ c.args.request.now
+    (no-collect c.args.request.now c.in_default.not-Collect) c.requires.waits
 
 pub unreachable-requires : goal.unreachable-requires
 unreachable-requires g c =
@@ -23,7 +25,7 @@ pub returns-in-Err-clause-fed : goal.returns-in-Err-clause-fed
 returns-in-Err-clause-fed g c =
     rw c.in-Collect.is
     (own-unfed-of g.D.Keeper.rows g.D.Keeper.given g.D.Keeper.faults (record { pass = c.args.pass.now; turns = g.G.SessionGate.turns c.args.gate.now }) (record { pass = c.run_feed.new.pass; turns = g.G.SessionGate.turns c.run_feed.new.gate })
-    c.as_slice-live.result.now c.in-Collect.asked.live c.as_slice-live.ensures c.in-Collect.asked c.in-Err.broken (rw c.in-Collect.is at c.requires.asked) (rw c.in-Collect.is at c.requires.timeless) c.in-Err.ensures.broken c.in-Err.ensures.worn c.in-Err.ensures.runs c.run_feed.ensures.keeper)
+    c.as_slice-live.result.now c.in-Collect.asked.live c.as_slice-live.ensures c.in-Collect.asked c.in-Err.broken c.requires.waits (rw c.in-Collect.is at c.requires.asked) (rw c.in-Collect.is at c.requires.timeless) c.in-Err.ensures.broken c.in-Err.ensures.worn c.in-Err.ensures.memory c.in-Err.ensures.runs c.run_feed.ensures.keeper)
 
 pub run_feed-requires-clause-sound : goal.run_feed-requires-clause-sound
 run_feed-requires-clause-sound g c =

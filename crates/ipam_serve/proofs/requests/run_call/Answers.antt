@@ -1,9 +1,9 @@
-use Rattle.std.proofs.Common.{Err, ap, arith, inr, ◌∙◌}
+use Rattle.std.proofs.Common.{Err, ap, arith, inl, inr, ◌∙◌}
 use Rattle.ipam_shared.specs.PassValue.{PassValue}
 use Rattle.ipam_serve.proofs.Going.{call-answered, call-broken, call-fed, worn-from, worn-so}
 use Rattle.ipam_serve.proofs.Running.{begins-calls-part}
 use Rattle.ipam_serve.proofs.Keeping.{makes-then}
-use Rattle.ipam_serve.proofs.Wearing.{worn-more, worn-waited}
+use Rattle.ipam_serve.proofs.Wearing.{memory-so, way-then, worn-more, worn-waited}
 use Rattle.ipam_serve.specs.Spans.{waits_of}
 use Rattle.ipam_serve.proofs.Admitting.{admits-then}
 use Rattle.ipam_serve.proofs.requests.run_call.Goals as goal
@@ -71,3 +71,11 @@ returns-in-Ok-Answered-clause-idle g c = rw c.in-Ok-Answered.field-0-is at c.in-
 pub returns-in-Ok-Waits-clause-admitted : goal.returns-in-Ok-Waits-clause-admitted
 returns-in-Ok-Waits-clause-admitted g c =
     admits-then g.G.SessionGate.admits c.args.pass.now c.run_request.new.pass c.feed_own.new.pass c.run_request.ensures.admitted c.feed_own.ensures.admitted
+
+pub returns-in-Ok-Waits-clause-memory : goal.returns-in-Ok-Waits-clause-memory
+returns-in-Ok-Waits-clause-memory g c =
+    let ran = rw c.in-Ok-Waits.field-0-is at c.in-Ok-Waits.ensures.ran in
+    memory-so c.feed_own.result _ _ (way-then c.args.pass.now c.run_request.new.pass c.feed_own.new.pass ran.entries 1 c.args.request.now ran.took) c.feed_own.ensures.fed.memory
+
+pub returns-in-Err-clause-memory : goal.returns-in-Err-clause-memory
+returns-in-Err-clause-memory g c = memory-so {T = Unit {0}} (Err c.in-Err.broken) _ _ inl c.in-Err.ensures.memory

@@ -1,10 +1,10 @@
-use Rattle.std.proofs.Common.{◌∙◌}
+use Rattle.std.proofs.Common.{◌∙◌, Err, inl}
 use Rattle.ipam_shared.specs.Passes.{runs_in}
 use Rattle.ipam_serve.proofs.Going.{fed-broken, fed-found, fed-runs, feeds-early, still-runs, worn-any, worn-so}
 use Rattle.ipam_serve.proofs.Running.{not-begun, waiting-some}
 use Rattle.ipam_serve.proofs.Turning.{took-lock}
 use Rattle.ipam_serve.proofs.Keeping.{makes-fed, makes-none, makes-then}
-use Rattle.ipam_serve.proofs.Wearing.{worn-then}
+use Rattle.ipam_serve.proofs.Wearing.{fed-memory, memory-so, worn-then}
 use Rattle.ipam_serve.specs.declared.turns.Feeding.TheVariants as feeding
 use Rattle.ipam_serve.proofs.Admitting.{admits-fed, admits-none, admits-then}
 use Rattle.ipam_serve.proofs.requests.run_feed.Goals as goal
@@ -72,3 +72,11 @@ returns-in-Ok-TooSoon-clause-admitted g c =
 
 pub returns-in-Err-clause-admitted : goal.returns-in-Err-clause-admitted
 returns-in-Err-clause-admitted g c = admits-none g.G.SessionGate.admits c.args.pass.now c.feed.new.pass 1 c.in-Err.ensures.not_fed
+
+pub returns-in-Ok-Fed-clause-memory : goal.returns-in-Ok-Fed-clause-memory
+returns-in-Ok-Fed-clause-memory g c =
+    fed-memory (record { pass = c.args.pass.now; turns = g.G.SessionGate.turns c.args.gate.now }) c.feed.new.pass (record { pass = c.run_fed.new.pass; turns = g.G.SessionGate.turns c.run_fed.new.gate })
+    c.args.live.now c.args.at c.run_fed.result (rw c.in-Ok-Fed.field-0-is at c.in-Ok-Fed.ensures.fed) c.run_fed.ensures.went.broken c.run_fed.ensures.went.memory
+
+pub returns-in-Err-clause-memory : goal.returns-in-Err-clause-memory
+returns-in-Err-clause-memory g c = memory-so {T = Unit {0}} (Err c.in-Err.broken) _ _ (λ found. (found.0, inl found.1)) c.in-Err.ensures.memory

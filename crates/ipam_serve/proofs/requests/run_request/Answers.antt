@@ -3,7 +3,7 @@ use Rattle.ipam_serve.proofs.Going.{broken-begun, ran-begun, ran-idle, ran-waits
 use Rattle.ipam_serve.proofs.Running.{begun-asked, not-begun, some-asked}
 use Rattle.ipam_serve.proofs.Turning.{took-lock}
 use Rattle.ipam_serve.proofs.Keeping.{makes-begun, makes-none, makes-then}
-use Rattle.ipam_serve.proofs.Wearing.{worn-then}
+use Rattle.ipam_serve.proofs.Wearing.{memory-so, room-then, worn-then}
 use Rattle.ipam_serve.proofs.Admitting.{admits-begun, admits-none, admits-then}
 use Rattle.ipam_serve.proofs.requests.run_request.Goals as goal
 
@@ -65,3 +65,7 @@ returns-in-Ok-clause-admitted g c =
 
 pub returns-in-Err-clause-admitted : goal.returns-in-Err-clause-admitted
 returns-in-Err-clause-admitted g c = admits-none g.G.SessionGate.admits c.args.pass.now c.begin.new.pass 1 c.in-Err.ensures.not_begun
+
+pub returns-in-Ok-clause-memory : goal.returns-in-Ok-clause-memory
+returns-in-Ok-clause-memory g c =
+    memory-so c.run_on.result _ _ (room-then c.args.pass.now c.begin.new.pass c.run_on.new.pass _ 0 c.in-Ok.ensures.begun) c.run_on.ensures.went.memory

@@ -9,6 +9,7 @@ returns-in-Stop-clause-steps g c = record {
   no_step = took-rest c.args.pass.now;
   passed = c.pass.ensures.turn;
   worn = tt;
+  memory = tt;
   keeper = makes-nothing g.D.Keeper.rows g.D.Keeper.given g.D.Keeper.faults c.args.pass.now;
 }
 
@@ -18,6 +19,7 @@ returns-in-Go-clause-steps g c = record {
   no_step = c.call.ensures.not_called;
   passed = c.pass.ensures.turn;
   worn = c.call.ensures.worn;
+  memory = c.call.ensures.memory;
   keeper = c.call.ensures.keeper;
 }
 

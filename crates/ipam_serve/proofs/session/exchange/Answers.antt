@@ -1,4 +1,4 @@
-use Rattle.std.proofs.Common.{ap, refl, ◌∙◌}
+use Rattle.std.proofs.Common.{Err, ap, refl, ◌∙◌}
 use Rattle.std.specs.Io.KnownBytes.{prepend_known}
 use Rattle.ipam_shared.specs.PassValue.{PassValue}
 use Rattle.ipam_serve.specs.Keeping.{AtKeeper, at_keeper}
@@ -10,6 +10,7 @@ use Rattle.ipam_serve.proofs.Routing.{same-rests}
 use Rattle.ipam_serve.proofs.Sessions.{ends-nothing, ends-told, ends-undone, exchanged}
 use Rattle.ipam_serve.proofs.Reading.{broken-reads, broken-stops, broken-writes}
 use Rattle.ipam_serve.proofs.Settled.{rose-after, rose-halts, took-sure}
+use Rattle.ipam_serve.proofs.Wearing.{memory-so, wants-none}
 use Rattle.ipam_serve.proofs.Admitting.{admits-nothing, admits-settles, admits-then}
 use Rattle.ipam_serve.proofs.session.exchange.Goals as goal
 
@@ -69,7 +70,8 @@ returns-in-Err-told-clause-ended g c =
     rw c.end_of.ensures
     (ends-undone at c.in-Ok.line.items old new (g.G.SessionGate.turns c.read_line.new.gate) new.coming (g.L.Sink.written c.read_line.new.link) c.read_line.ensures.turns
     c.in-Ok.ensures.line
-    refl c.read_line.ensures.written (c.answer_line-told.ensures.lines ∙ c.read_line.ensures.asked) c.in-Err-told.broken c.in-Err-told.ensures.broken c.in-Err-told.ensures.worn refl
+    refl c.read_line.ensures.written (c.answer_line-told.ensures.lines ∙ c.read_line.ensures.asked) c.in-Err-told.broken c.in-Err-told.ensures.broken c.in-Err-told.ensures.worn
+    (memory-so {T = Unit {0}} (Err c.in-Err-told.broken) _ _ (wants-none _ _ _) c.in-Err-told.ensures.memory) refl
     (came-none g.D.Keeper.rows g.D.Keeper.given g.D.Keeper.faults old.server.taker.pass new.server.taker.pass c.answer_line-told.ensures.keeper))
 
 pub returns-in-Err-clause-ended : goal.returns-in-Err-clause-ended

@@ -1,7 +1,7 @@
-use Rattle.std.proofs.Common.{◌≤◌, Err, ap}
-use Rattle.ipam_serve.proofs.Coming.{took-err}
+use Rattle.std.proofs.Common.{◌≤◌, arith, Err, ap}
+use Rattle.ipam_serve.proofs.Coming.{one-err, took-err}
 use Rattle.ipam_serve.proofs.Turning.{took-known, took-rest}
-use Rattle.ipam_serve.proofs.Wearing.{worn-few, worn-found}
+use Rattle.ipam_serve.proofs.Wearing.{found-room, memory-found, worn-few, worn-found}
 use Rattle.ipam_serve.proofs.turns.begin.Goals as goal
 
 pub returns-then-left-lt2-clause-not_begun : goal.returns-then-left-lt2-clause-not_begun
@@ -25,3 +25,12 @@ returns-in-Err-clause-worn g c =
     let enough : 2 ≤ c.args.pass.now.left = rw (← c.left.ensures) c.if-left-lt2.false in
     worn-found c.not_begun.result c.args.pass.now c.begin.new.pass (λ e. (c.in-Err.ensures.worn.0 (ap Err (c.not_begun.ensures.worn e))).2)
     (took-err c.args.pass.now c.begin.new.pass c.in-Err.fault c.in-Err.ensures.spent enough c.in-Err.ensures.same c.in-Err.ensures.seen c.in-Err.ensures.knows c.in-Err.ensures.left)
+
+pub returns-in-Err-clause-memory : goal.returns-in-Err-clause-memory
+returns-in-Err-clause-memory g c =
+    let enough : 2 ≤ c.args.pass.now.left = rw (← c.left.ensures) c.if-left-lt2.false in
+    memory-found c.not_begun.result _
+    (λ e. found-room c.args.pass.now c.begin.new.pass
+    (λ many. let is = c.in-Err.ensures.worn.1 (omega arith, c.requires.idle, many) in let none = c.not_begun.ensures.memory e in cc (is, none))
+    (took-err c.args.pass.now c.begin.new.pass c.in-Err.fault c.in-Err.ensures.spent enough c.in-Err.ensures.same c.in-Err.ensures.seen c.in-Err.ensures.knows c.in-Err.ensures.left)
+    (one-err c.args.pass.now c.begin.new.pass c.in-Err.fault c.in-Err.ensures.spent enough c.in-Err.ensures.left))

@@ -1,8 +1,10 @@
-use Rattle.std.proofs.Common.{◌≤◌, Err, ap}
-use Rattle.ipam_serve.proofs.Coming.{called-so, on-err, sees-none, took-err, waits-called}
+use Rattle.std.proofs.Common.{◌≤◌, arith, Err, ap}
+use Rattle.ipam_shared.specs.Passes.{runs_in}
+use Rattle.ipam_serve.proofs.Coming.{called-so, on-err, one-err, sees-none, took-err, waits-called}
 use Rattle.ipam_serve.proofs.Going.{worn-so}
 use Rattle.ipam_serve.proofs.Turning.{took-rest}
-use Rattle.ipam_serve.proofs.Wearing.{worn-few, worn-many}
+use Rattle.ipam_serve.proofs.Slots.{running-so}
+use Rattle.ipam_serve.proofs.Wearing.{found-room, memory-so, worn-few, worn-many}
 use Rattle.ipam_serve.proofs.Keeping.{makes-call, makes-none, makes-nothing}
 use Rattle.ipam_serve.proofs.turns.call.Goals as goal
 
@@ -53,3 +55,15 @@ returns-in-Err-clause-worn g c =
     (λ e. worn-many c.args.pass.now c.turn.new.pass (c.in-Err.ensures.worn.0 (ap Err e)).1
     (took-err c.args.pass.now c.turn.new.pass c.in-Err.fault c.in-Err.ensures.spent enough c.in-Err.ensures.same c.in-Err.ensures.seen c.in-Err.ensures.knows c.in-Err.ensures.left))
     c.not_called.ensures.worn
+
+pub returns-in-Err-clause-memory : goal.returns-in-Err-clause-memory
+returns-in-Err-clause-memory g c =
+    let enough : 2 ≤ c.args.pass.now.left = rw (← c.left.ensures) c.if-left-lt2.false in
+    memory-so c.not_called.result _ _
+    (λ none. found-room c.args.pass.now c.turn.new.pass
+    (λ many.
+    let runs = running-so (runs_in c.args.pass.now) c.requires.runs (λ waits. let is = c.in-Err.ensures.waiting.1 (omega arith, waits) in cc (is, none)) in
+    let is = c.in-Err.ensures.worn.1 (omega arith, many, runs) in cc (is, none))
+    (took-err c.args.pass.now c.turn.new.pass c.in-Err.fault c.in-Err.ensures.spent enough c.in-Err.ensures.same c.in-Err.ensures.seen c.in-Err.ensures.knows c.in-Err.ensures.left)
+    (one-err c.args.pass.now c.turn.new.pass c.in-Err.fault c.in-Err.ensures.spent enough c.in-Err.ensures.left))
+    c.not_called.ensures.memory

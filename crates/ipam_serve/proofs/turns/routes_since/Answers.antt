@@ -1,7 +1,8 @@
 use Rattle.std.proofs.Common.{◌≤◌, arith}
 use Rattle.ipam_serve.proofs.Coming.{knows-err, one-err, sees-none}
 use Rattle.ipam_serve.proofs.Looking.{any-one, told-one, worn-one}
-use Rattle.ipam_serve.proofs.Routing.{told-changes, told-faults}
+use Rattle.ipam_serve.proofs.Routing.{in-feed, told-changes, told-faults}
+use Rattle.ipam_serve.proofs.Wearing.{memory-so}
 use Rattle.ipam_serve.proofs.turns.routes_since.Goals as goal
 
 pub returns-then-left-lt2-clause-turn : goal.returns-then-left-lt2-clause-turn
@@ -30,3 +31,10 @@ pub returns-in-Err-clause-told : goal.returns-in-Err-clause-told
 returns-in-Err-clause-told g c =
     let enough : 2 ≤ c.args.pass.now.left = rw (← c.left.ensures) c.if-left-lt2.false in
     told-faults c.args.pass.now c.routes_since.new.pass c.args.revision (omega arith) c.in-Err.fault c.not_told.result c.in-Err.ensures.compacted c.in-Err.ensures.ahead c.not_told.ensures.told
+
+pub returns-in-Err-clause-memory : goal.returns-in-Err-clause-memory
+returns-in-Err-clause-memory g c =
+    let enough : 2 ≤ c.args.pass.now.left = rw (← c.left.ensures) c.if-left-lt2.false in
+    let one = one-err c.args.pass.now c.routes_since.new.pass c.in-Err.fault c.in-Err.ensures.spent enough c.in-Err.ensures.left in
+    memory-so c.not_told.result _ _ (λ feed. (omega arith, feed))
+    (in-feed c.args.pass.now c.routes_since.new.pass c.args.revision (omega arith) c.in-Err.fault c.not_told.result c.in-Err.ensures.compacted c.in-Err.ensures.ahead c.not_told.ensures.want_of_memory)

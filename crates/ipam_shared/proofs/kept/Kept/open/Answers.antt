@@ -49,6 +49,13 @@ returns-in-Ok-clause-sure g c =
     all-sure g.D.Keeper.rows g.D.Keeper.settled (record { cluster = c.in-Ok.cluster; keeper = c.load_sure-loaded.new.keeper; doubt = None; ring = c.in-Ok.ring; settled = c.args.first }) (record { store = c.in-Ok.cluster.store.store; first = c.args.first }) []
     (returns-in-Ok-clause-fed g c).kept_for (omega arith) (rw is at c.load_sure-loaded.ensures.settled)
 
+pub returns-in-Ok-clause-settled : goal.returns-in-Ok-clause-settled
+returns-in-Ok-clause-settled g c =
+    let both : Cluster × RingValue = (c.in-Ok.cluster, c.in-Ok.ring) in
+    let opening : IsOpening (IsFed c.args.first) (IsWhyNot (g.T.OpensKept.wants c.args.alloc)) c.load_sure-loaded.result (Ok both) = rw c.in-Ok.is at c.open_loaded.ensures in
+    let (rows, is, fed) = were-loaded (IsFed c.args.first) (IsWhyNot (g.T.OpensKept.wants c.args.alloc)) c.load_sure-loaded.result both opening in
+    rw is at c.load_sure-loaded.ensures.settled
+
 pub returns-in-Err-clause-refused : goal.returns-in-Err-clause-refused
 returns-in-Err-clause-refused g c =
     let load = c.load_sure-loaded.ensures in

@@ -1,0 +1,2 @@
+-- Lemmas on what is shown.
+pub mod Floats

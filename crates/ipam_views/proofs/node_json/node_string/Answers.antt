@@ -1,0 +1,11 @@
+use Rattle.std.proofs.Common.{◌∙◌, ap}
+use Rattle.std.proofs.lemmas.Result.{IfOk-weaker}
+use Rattle.serde_json.specs.Written.{has_float, compact_text}
+use Rattle.ipam_views.proofs.Floats.{node_without}
+use Rattle.ipam_views.proofs.node_json.node_string.Goals as goal
+
+pub returns : goal.returns
+returns c =
+    let json = c.in_ok-json.ensures in
+    let floatless = node_without c.args.node.now c.args.store.now.store c.args.counts.now in
+    IfOk-weaker c.to_string.result _ _ (λ s text. text (ap has_float json ∙ floatless) ∙ ap compact_text json) c.to_string.ensures.text
